@@ -1,0 +1,12 @@
+//! A machine's sizes, its address map, and the words of one line.
+#![tactic(auto)]
+
+mod address;
+mod body;
+mod machine;
+#[cfg(test)]
+mod tests;
+
+pub use address::{Addr, BadAddr};
+pub use body::Body;
+pub use machine::{Field, Machine, OutOfRange, fits};
