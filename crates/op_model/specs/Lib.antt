@@ -1,0 +1,9 @@
+pub mod Nodes
+pub mod Operations
+pub mod Messages
+pub mod Lines
+pub mod Tables
+pub mod Shares
+pub mod Events
+pub mod Flat
+pub mod Run
