@@ -1,0 +1,4 @@
+pub mod Types
+pub mod Line
+pub mod Good
+pub mod Rows
