@@ -1,0 +1,16 @@
+pub mod Shares
+pub mod Project
+pub mod Flat
+pub mod LocalRoom
+pub mod States
+pub mod Sets
+pub mod Order
+pub mod Sound
+pub mod Completed
+pub mod Rows
+pub mod Owns
+pub mod Events
+pub mod Runs
+pub mod RowMet
+pub mod Moves
+pub mod OneHistory

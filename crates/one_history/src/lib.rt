@@ -1,0 +1,41 @@
+//! Every run of the machine is one history: what holds of each line, of the whole machine.
+//!
+//! A row of the whole machine is that row of its line and leaves every other line as it was, so that what holds of one line holds of each. `IsSound` of `specs/Sound.antt` says it, with program order, legality on one flat memory, and the cache sets. The functions here do nothing; their contracts are the laws, for either charge.
+#![tactic(auto)]
+
+ghost use Rattle.std.specs.Prelude.{◌≡◌, ◌<◌, ℕ, Bool, true, false, List, ◌∷◌, ◌++◌, [], Some, Ok};
+ghost use Rattle.line_map.specs.Sizes.{Sizes};
+ghost use Rattle.op_model.specs.declared.operations.Op.{Op};
+ghost use Rattle.op_model.specs.declared.events.Class.{Class};
+ghost use Rattle.op_model.specs.declared.events.Event.{Event};
+ghost use Rattle.op_model.specs.declared.events.EvictKind.{EvictKind};
+ghost use Rattle.op_model.specs.declared.messages.Msg.{Msg};
+ghost use Rattle.op_model.specs.Shares.{Trace, program, Charge, Share, State};
+ghost use Rattle.op_model.specs.Events.Node.{EvictLine, NodeOutcome, meets_row, local};
+ghost use Rattle.op_model.specs.Events.Step.{Programs, states, then_step};
+ghost use Rattle.op_model.specs.Run.Runs.{Past, run, run_from, state_of};
+ghost use Rattle.op_model.specs.Run.History.{entries_by, IsOneHistory};
+ghost use Rattle.one_history.specs.Sound.{IsOrdered, IsCached};
+
+/// The completed operations of every run, in the order in which they are served, are one history of one flat memory. What each node has served are the first operations of its program, in order. A cache set never holds two lines, nor another one than a node waits for.
+pub fn every_run()
+    ensures one { (charge : Charge) (trace : Trace) (events : List Event) (past : Past) → 0 < trace.sizes.words → run charge trace events ≡ Some past → IsOneHistory charge trace events past }
+    ensures ordered { (charge : Charge) (trace : Trace) (events : List Event) (past : Past) (node : ℕ) → 0 < trace.sizes.words → run charge trace events ≡ Some past → IsOrdered trace node (past.state.share node) (entries_by node past.served) }
+    ensures cached { (charge : Charge) (trace : Trace) (events : List Event) (past : Past) (node : ℕ) → 0 < trace.sizes.words → run charge trace events ≡ Some past → IsCached trace.sizes (past.state.share node) }
+{}
+
+/// In every run the message at the front of a lane meets a row at its taker.
+pub fn every_front()
+    ensures meets { (charge : Charge) (trace : Trace) (events : List Event) (past : Past) (src dst : ℕ) (class : Class) (m : Msg) (rest : List Msg) → 0 < trace.sizes.words → run charge trace events ≡ Some past → past.state.lane src dst class ≡ m ∷ rest → meets_row trace.sizes dst (past.state.share dst) src m ≡ true }
+{}
+
+/// An eviction that a node does where the lane has no room for its message, it does in the same way where there is room.
+pub fn more_room()
+    ensures room { (charge : Charge) (sizes : Sizes) (node : ℕ) (program : List Op) (share : Share) (line : ℕ) (kind : EvictKind) (out : NodeOutcome) → local charge sizes node program share (EvictLine line kind false) ≡ Ok out → local charge sizes node program share (EvictLine line kind true) ≡ Ok out }
+{}
+
+/// A run with its history goes through the states of the run without it, and one event more is one step more.
+pub fn run_states()
+    ensures same { (charge : Charge) (trace : Trace) (past : Past) (events : List Event) → states charge trace.sizes (program trace) past.state events ≡ state_of (run_from charge trace past events) }
+    ensures more { (charge : Charge) (sizes : Sizes) (programs : Programs) (state : State) (events : List Event) (event : Event) → states charge sizes programs state (events ++ event ∷ []) ≡ then_step charge sizes programs event (states charge sizes programs state events) }
+{}
