@@ -1,0 +1,10 @@
+pub mod Cutting
+pub mod Digits
+pub mod Sizes
+pub mod Ops
+pub mod Inversion
+pub mod Kept
+pub mod Parts
+pub mod Spelled
+pub mod Places
+pub mod Named
