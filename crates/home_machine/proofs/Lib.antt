@@ -1,0 +1,15 @@
+pub mod Lists
+pub mod Runs
+pub mod States
+pub mod Places
+pub mod Orders
+pub mod Events
+pub mod Tallies
+pub mod Kept
+pub mod Serial
+pub mod Starts
+pub mod Ends
+pub mod Views
+pub mod Advances
+pub mod Completions
+pub mod Samples

@@ -1,0 +1,5 @@
+pub mod HomeRuns
+pub mod HomeStates
+pub mod HomeSchedules
+pub mod HomeEvents
+pub mod MachineRuns

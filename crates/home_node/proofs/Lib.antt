@@ -1,0 +1,5 @@
+pub mod Headers
+pub mod Rows
+pub mod Sets
+pub mod Kept
+pub mod Calls

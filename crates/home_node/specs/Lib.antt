@@ -1,0 +1,3 @@
+pub mod HomeNodes
+pub mod HomeMemory
+pub mod Codes
