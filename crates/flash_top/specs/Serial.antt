@@ -44,8 +44,9 @@ pub record Seen : Type 0 where
   pub write_faults_before : ℕ
   pub write_faults_after : ℕ
 
+-- nothing was written, and no write failed
 abbrev pub IsUnwritten : Seen → Type 0
-IsUnwritten seen = seen.written_after ≡ seen.written_before
+IsUnwritten seen = (seen.written_after ≡ seen.written_before) × (seen.write_faults_after ≡ seen.write_faults_before)
 
 -- no more bytes were taken from the source than these
 pub record TakesAtMost (seen : Seen) (count : ℕ) : Type 0 where
@@ -92,9 +93,9 @@ pub record IsRefused (seen : Seen) (fault : TraceError) : Type 0 where
   pub refused : trace_of bytes ≡ Err fault
   pub unwritten : IsUnwritten seen
 
--- nothing was read and nothing was written
+-- nothing was read, no read failed, and nothing was written
 abbrev pub IsUntouched : Seen → Type 0
-IsUntouched seen = (seen.left_after ≡ seen.left_before) × IsUnwritten seen
+IsUntouched seen = (seen.left_after ≡ seen.left_before) × (seen.read_faults_after ≡ seen.read_faults_before) × IsUnwritten seen
 
 -- What a status says of a call whose words are the command's. ReadFault and WriteFault come only where the count of faults of the
 -- source, or of the sink, rose. Want of memory may come at any place before the first byte is written
