@@ -9,6 +9,7 @@ use base.Stored.{coded_unit}
 use Rattle.line_map.specs.Sizes.{Sizes, all_lines, set_of}
 pub use Rattle.op_model.specs.Lines.{Copy, Absent, Shared, Exclusive, state_of, words_of, is_empty}
 pub use Rattle.op_model.specs.Shares.{put_copy}
+use Rattle.op_model.specs.Codes.{sizes_code}
 use Rattle.op_model.specs.Operations.{Words}
 
 -- the copies of a node's cache, by the lines that they are of
@@ -55,12 +56,6 @@ abbrev pub with_copy : CacheView → ℕ → Copy → CacheView
 with_copy cache line copy = record cache { copies = put_copy cache.copies line copy }
 
 -- how the parts of a cache are stored, so that a cache is a value
-abbrev pub sizes_code : Coded Sizes
-sizes_code =
-    code_by (ℕ × (ℕ × (ℕ × (ℕ × (ℕ × (ℕ × ℕ)))))) (coded× coded_ℕ (coded× coded_ℕ (coded× coded_ℕ (coded× coded_ℕ (coded× coded_ℕ (coded× coded_ℕ coded_ℕ))))))
-    (λ s. (s.nodes, (s.lines, (s.words, (s.links, (s.sets, (s.pending, s.evicts)))))))
-    (λ p. record { nodes = p.0; lines = p.1.0; words = p.1.1.0; links = p.1.1.1.0; sets = p.1.1.1.1.0; pending = p.1.1.1.1.1.0; evicts = p.1.1.1.1.1.1 }) (λ _. refl)
-
 abbrev split : Copy → Unit {0} ⊎ (Words ⊎ Words)
 split Absent = inl tt
 split (Shared words) = inr (inl words)

@@ -4,7 +4,7 @@ use Rattle.std.specs.Io.KnownBytes.{Appends, Consumes}
 use Rattle.op_model.specs.declared.events.Event.{Event}
 use Rattle.op_model.specs.Shares.{Trace, program, Linked}
 use Rattle.op_model.specs.Run.Runs.{Past}
-use Rattle.op_model.specs.Run.History.{history, IsOneHistory}
+use Rattle.op_model.specs.Run.History.{history, AreEntriesOf, IsOneHistory}
 use Rattle.op_model.specs.Run.Rest.{IsAtRest}
 use Rattle.op_model.specs.Run.Schedules.{IsSerial}
 use Rattle.byte_io.specs.Faults.{Rose}
@@ -14,7 +14,6 @@ use Rattle.byte_io.specs.declared.moves.ReadStop.TheVariants as stop
 use Rattle.trace_text.specs.declared.fault.TraceError.{TraceError}
 use Rattle.trace_text.specs.declared.fault.TraceError.TheVariants as error
 use Rattle.trace_text.specs.Reading.{trace_of}
-use Rattle.home_machine.specs.HomeRuns.{AreEntriesOf}
 use Rattle.dir_report.specs.Reports.{report_text}
 use Rattle.flash_top.specs.declared.status.Status.{Status}
 use Rattle.flash_top.specs.declared.status.Status.TheVariants.{Done, Usage, BadTrace, TooLong, TooManyOps, ReadFault, WriteFault, Memory}

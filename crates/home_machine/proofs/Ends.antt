@@ -12,11 +12,12 @@ use Rattle.op_model.specs.Shares.{Linked, pending_lines}
 use Rattle.op_model.specs.Events.Step.{Programs}
 use Rattle.op_model.specs.Run.Runs.{Past, start_share}
 use Rattle.op_model.specs.Run.Rest.{IsAtRest}
+use Rattle.op_model.specs.Run.History.{AreEntriesOf}
 use Rattle.op_model.specs.Run.Schedules.{processor_event, serial_next}
 use Rattle.home_node.specs.HomeNodes.{NodeView}
 use Rattle.home_node.proofs.Headers.{sum_of_headers}
 use Rattle.home_node.proofs.Kept.{started}
-use Rattle.home_machine.specs.HomeRuns.{programs_of, IsOrderOf, AreEntriesOf, IsSerialRun}
+use Rattle.home_machine.specs.HomeRuns.{programs_of, IsOrderOf, IsSerialRun}
 use Rattle.home_machine.specs.HomeStates.{share_or, state_of, programs_in, AreHomeNodes, IsKept}
 use Rattle.home_machine.specs.HomeSchedules.{IsScheduled, HasDone}
 use Rattle.home_machine.specs.declared.counts.Counts.{Counts}

@@ -25,7 +25,7 @@ quiet sizes views = find-none (λ (lane : Lane). not (is_no_message [])) (lanes_
 
 pub next-quiet : (sizes : Sizes) (programs : Programs) (order : List Op) (views : List NodeView) →
     serial_next Linked sizes programs order (state_of sizes views) ≡ option_map (processor_event Linked sizes programs (state_of sizes views)) (current order (state_of sizes views))
-next-quiet sizes programs order views = ap (lane_or_next Linked sizes programs order (state_of sizes views)) (quiet sizes views)
+next-quiet sizes programs order views = ap (lane_or_next Linked sizes programs (state_of sizes views) (current order (state_of sizes views))) (quiet sizes views)
 
 at_self : (n : ℕ) → (n == n) ≡ true
 at_self n = grind (arith, nat_tests)

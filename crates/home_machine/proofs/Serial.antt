@@ -13,10 +13,9 @@ use Rattle.op_model.specs.declared.operations.Op.{Op}
 use Rattle.op_model.specs.Shares.{Charge, State}
 use Rattle.op_model.specs.Events.Step.{Programs}
 use Rattle.op_model.specs.Run.Runs.{Past, start, run_by}
-use Rattle.op_model.specs.Run.History.{is_completed, kept_of, IsEntryOf}
+use Rattle.op_model.specs.Run.History.{is_completed, kept_of, IsEntryOf, AreEntriesOf}
 use Rattle.op_model.specs.Run.Schedules.{IsSchedule}
 use Rattle.home_node.specs.HomeNodes.{NodeView}
-use Rattle.home_machine.specs.HomeRuns.{AreEntriesOf}
 use Rattle.home_machine.specs.HomeStates.{share_in}
 use Rattle.home_machine.specs.HomeSchedules.{IsScheduled, done_before, HasDone}
 use Rattle.home_machine.specs.HomeEvents.{Completes, MakesRoom}

@@ -8,9 +8,10 @@ use Rattle.op_model.specs.declared.events.Event.{Event}
 use Rattle.op_model.specs.declared.operations.Entry.{Entry}
 use Rattle.op_model.specs.declared.operations.Op.{Op}
 use Rattle.op_model.specs.Shares.{Linked}
+use Rattle.op_model.specs.Run.History.{AreEntriesOf}
 use Rattle.op_model.specs.Run.Runs.{Past, start_share, start, run_by}
 use Rattle.home_node.specs.HomeNodes.{NodeView, IsHomeProgram, IsHomeShare}
-use Rattle.home_machine.specs.HomeRuns.{programs_of, AreHomePrograms, AreEntriesOf}
+use Rattle.home_machine.specs.HomeRuns.{programs_of, AreHomePrograms}
 use Rattle.home_machine.specs.HomeStates.{AreNew, share_or, share_in, state_of, programs_in, IsHomeNode, IsKept}
 use Rattle.home_machine.specs.HomeSchedules.{HasDone}
 use Rattle.home_machine.specs.declared.counts.Counts.{Counts}

@@ -7,7 +7,7 @@ use Rattle.op_model.specs.declared.operations.Op.{Op}
 use Rattle.op_model.specs.Shares.{Linked}
 use Rattle.op_model.specs.Events.Step.{Programs}
 use Rattle.op_model.specs.Run.Runs.{Past, start, run_by}
-use Rattle.op_model.specs.Run.History.{IsEntryOf, history}
+use Rattle.op_model.specs.Run.History.{AreEntriesOf, history}
 use Rattle.op_model.specs.Run.Rest.{IsAtRest}
 use Rattle.op_model.specs.Run.Schedules.{IsSchedule, serial_next}
 use Rattle.home_node.specs.HomeNodes.{IsHomeProgram}
@@ -34,12 +34,6 @@ pub record AreHomePrograms (sizes : Sizes) (programs : List (List Op)) : Type 0 
 -- an order of all operations in which those of each node are its program
 abbrev pub IsOrderOf : Programs → List Op → Type 0
 IsOrderOf programs order = (node : ℕ) → filter (λ op. op.node == node) order ≡ programs node
-
--- the entries are those of these operations, one each, in this order
-abbrev pub AreEntriesOf : List Op → List Entry → Type 0
-AreEntriesOf [] [] = Unit {0}
-AreEntriesOf (op ∷ ops) (entry ∷ entries) = (entry.node ≡ op.node) × IsEntryOf op.index op entry × AreEntriesOf ops entries
-AreEntriesOf _ _ = ⊥
 
 -- the events are the serial schedule of the operations in this order; the history is the operations in that order, all
 -- completed; and the last state is at rest

@@ -8,7 +8,7 @@ use Rattle.op_model.specs.Shares.{Charge, State}
 use Rattle.op_model.specs.Events.Step.{Programs}
 use Rattle.op_model.specs.Run.Runs.{Past, start, run_by}
 use Rattle.home_node.specs.HomeNodes.{NodeView}
-use Rattle.home_machine.specs.HomeRuns.{AreEntriesOf}
+use Rattle.op_model.specs.Run.History.{AreEntriesOf}
 use Rattle.home_machine.specs.HomeStates.{share_in}
 
 -- each event is the schedule's next one at its place

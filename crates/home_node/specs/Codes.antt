@@ -18,7 +18,8 @@ use Rattle.op_model.specs.Nodes.{Nodes}
 use Rattle.op_model.specs.Operations.{Words}
 use Rattle.op_model.specs.Lines.{Header}
 use Rattle.op_model.specs.Shares.{Share}
-use Rattle.cpu_cache.specs.Caches.{Copies, sizes_code, copy_code}
+use Rattle.op_model.specs.Codes.{sizes_code, header_code}
+use Rattle.cpu_cache.specs.Caches.{Copies, copy_code}
 use Rattle.home_node.specs.HomeNodes.{NodeView}
 
 abbrev number_of : Kind → ℕ
@@ -47,51 +48,6 @@ op_code =
 
 abbrev pub want_code : Coded Want
 want_code = code_by (Op × Bool) (coded× op_code coded_bool) (λ want. (want.op, want.marked)) (λ p. record { op = p.0; marked = p.1 }) (λ _. refl)
-
-abbrev split_grantee : Grantee → Unit {0} ⊎ (Unit {0} ⊎ ℕ)
-split_grantee Nobody = inl tt
-split_grantee Me = inr (inl tt)
-split_grantee (Node node) = inr (inr node)
-
-abbrev join_grantee : Unit {0} ⊎ (Unit {0} ⊎ ℕ) → Grantee
-join_grantee (inl u) = Nobody
-join_grantee (inr (inl u)) = Me
-join_grantee (inr (inr node)) = Node node
-
-pub join-split_grantee : (grantee : Grantee) → join_grantee (split_grantee grantee) ≡ grantee
-join-split_grantee Nobody = refl
-join-split_grantee Me = refl
-join-split_grantee (Node node) = refl
-
-abbrev split_wait : Wait → Unit {0} ⊎ (Grantee ⊎ (ℕ ⊎ ℕ))
-split_wait Idle = inl tt
-split_wait (Invalidate grantee) = inr (inl grantee)
-split_wait (ForwardGet node) = inr (inr (inl node))
-split_wait (ForwardGetX node) = inr (inr (inr node))
-
-abbrev join_wait : Unit {0} ⊎ (Grantee ⊎ (ℕ ⊎ ℕ)) → Wait
-join_wait (inl u) = Idle
-join_wait (inr (inl grantee)) = Invalidate grantee
-join_wait (inr (inr (inl node))) = ForwardGet node
-join_wait (inr (inr (inr node))) = ForwardGetX node
-
-pub join-split_wait : (wait : Wait) → join_wait (split_wait wait) ≡ wait
-join-split_wait Idle = refl
-join-split_wait (Invalidate grantee) = refl
-join-split_wait (ForwardGet node) = refl
-join-split_wait (ForwardGetX node) = refl
-
-abbrev pub wait_code : Coded Wait
-wait_code =
-    code_by (Unit {0} ⊎ (Grantee ⊎ (ℕ ⊎ ℕ)))
-    (coded⊎ coded_unit (coded⊎ (code_by (Unit {0} ⊎ (Unit {0} ⊎ ℕ)) (coded⊎ coded_unit (coded⊎ coded_unit coded_ℕ)) split_grantee join_grantee join-split_grantee) (coded⊎ coded_ℕ coded_ℕ)))
-    split_wait join_wait join-split_wait
-
-abbrev pub header_code : Coded Header
-header_code =
-    code_by (Bool × (Bool × (Wait × (ℕ × (Nodes × Words))))) (coded× coded_bool (coded× coded_bool (coded× wait_code (coded× coded_ℕ (coded× (fin.code coded_ℕ coded_unit) (coded_list coded_ℕ))))))
-    (λ h. (h.local, (h.dirty, (h.wait, (h.acks, (h.list, h.memory))))))
-    (λ p. record { local = p.0; dirty = p.1.0; wait = p.1.1.0; acks = p.1.1.1.0; list = p.1.1.1.1.0; memory = p.1.1.1.1.1 }) (λ _. refl)
 
 abbrev pub share_code : Coded Share
 share_code =
