@@ -267,7 +267,7 @@ module _ (charge : Charge) (trace : Trace) (positive : 0 < trace.sizes.words) (p
           (reclaim-quiet (share_at sizes state (home_of sizes line) line) o (room_of charge sizes (share (home_of sizes line))) e)
 
   -- a message that a node takes by its own share
-  message-own : (src dst line : ℕ) (content : Content) → IsOwn sizes dst line (on_message dst (home_of sizes line) src (is_set_empty sizes (share dst) line) (room_of charge sizes (share dst)) content (line_share sizes (share dst) line))
+  pub message-own : (src dst line : ℕ) (content : Content) → IsOwn sizes dst line (on_message dst (home_of sizes line) src (is_set_empty sizes (share dst) line) (room_of charge sizes (share dst)) content (line_share sizes (share dst) line))
       (on_message dst (home_of sizes line) src (is_empty (copy_of (share dst) line)) (room_of charge sizes (share dst)) content (share_at sizes state dst line))
   unfolding project on_message
   message-own src dst line content =

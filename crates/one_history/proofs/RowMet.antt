@@ -34,7 +34,7 @@ module _ (charge : Charge) (trace : Trace) (past : Past) (sound : IsSound trace 
   abbrev line_at_all : ℕ → Line
   line_at_all line = project sizes past.state (line_words sizes past.served line) (answered_of sizes past line) line
 
-  meets-whole : (line : ℕ) (content : Content) (rest : List Content) → of_line line (past.state.lane src dst class) ≡ content ∷ rest → meets dst (home_of sizes line) src (is_empty (copy_of share line)) content (share_at sizes past.state dst line) ≡ true
+  pub meets-whole : (line : ℕ) (content : Content) (rest : List Content) → of_line line (past.state.lane src dst class) ≡ content ∷ rest → meets dst (home_of sizes line) src (is_empty (copy_of share line)) content (share_at sizes past.state dst line) ≡ true
   unfolding project
   meets-whole line content rest front = meets-take (home_of sizes line) (line_at_all line) (sound.lines line) src rest dst class content front
 

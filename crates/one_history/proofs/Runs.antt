@@ -92,10 +92,14 @@ sound-from charge trace positive past past' [] sound e = let is : past ≡ past'
 sound-from charge trace positive past past' (event ∷ events) sound e =
     go-on charge trace past past' events (effect charge trace.sizes (program trace) past.state event) (λ d is. keeps-event charge trace positive past sound event d is) (λ next s n. sound-from charge trace positive next past' events s n) e
 
+-- every state that a run reaches is sound
+pub sound_run : (charge : Charge) (trace : Trace) (events : List Event) (past : Past) → 0 < trace.sizes.words → run charge trace events ≡ Some past → IsSound trace past
+sound_run charge trace events past positive e = sound-from charge trace positive (start trace.sizes) past events (sound-start trace) e
+
 -- each node's entries are the operations of its program in order, as many as its place says, and after them the one that it has begun where that was served
 pub ordered_run : (charge : Charge) (trace : Trace) (events : List Event) (past : Past) (node : ℕ) → 0 < trace.sizes.words → run charge trace events ≡ Some past → IsOrdered trace node (past.state.share node) (entries_by node past.served)
-ordered_run charge trace events past node positive e = (sound-from charge trace positive (start trace.sizes) past events (sound-start trace) e).ordered node
+ordered_run charge trace events past node positive e = (sound_run charge trace events past positive e).ordered node
 
 -- no cache set has two lines
 pub cached_run : (charge : Charge) (trace : Trace) (events : List Event) (past : Past) (node : ℕ) → 0 < trace.sizes.words → run charge trace events ≡ Some past → IsCached trace.sizes (past.state.share node)
-cached_run charge trace events past node positive e = (sound-from charge trace positive (start trace.sizes) past events (sound-start trace) e).cached node
+cached_run charge trace events past node positive e = (sound_run charge trace events past positive e).cached node

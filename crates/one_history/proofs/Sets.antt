@@ -16,11 +16,11 @@ use Rattle.line_invariant.specs.Rows.{wanting}
 use Rattle.one_history.specs.Sound.{IsCached, is_begun_on, is_kept}
 use Rattle.one_history.proofs.Shares.{IsOn, copy-other, copy-same}
 
-any-none : {A : Type 0} (p : A → Bool) (xs : List A) → ((x : A) → p x ≡ false) → list_any p xs ≡ false
+pub any-none : {A : Type 0} (p : A → Bool) (xs : List A) → ((x : A) → p x ≡ false) → list_any p xs ≡ false
 any-none p [] none = refl
 any-none p (x ∷ xs) none = rw (none x) (any-none p xs none)
 
-any-found : {X : Type 0} (p : ℕ → Bool) (q : ℕ) (x : X) (es : List (ℕ × X)) → find nat_cmp q es ≡ Some x → p q ≡ true → list_any (λ e. p e.0) es ≡ true
+pub any-found : {X : Type 0} (p : ℕ → Bool) (q : ℕ) (x : X) (es : List (ℕ × X)) → find nat_cmp q es ≡ Some x → p q ≡ true → list_any (λ e. p e.0) es ≡ true
 any-found p q x [] at holds = absurd (let d : ◌≡◌ {A = Option _} None (Some x) = at in cc)
 any-found p q x (e ∷ es) at holds = go (q == e.0) refl (sym (ap (λ c. cond c (Some e.1) (find nat_cmp q es)) (unsigned_tied q e.0)) ∙ at) (λ rest. any-found p q x es rest holds)
   where
@@ -33,7 +33,7 @@ any-found p q x (e ∷ es) at holds = go (q == e.0) refl (sym (ap (λ c. cond c 
     go false is at rest = ap (λ b. p e.0 || b) (rest at) ∙ or-true (p e.0)
 
 -- a line with a copy stands in the map of copies
-found : (share : Share) (q : ℕ) → is_empty (copy_of share q) ≡ false → (copy : Copy) × (find nat_cmp q (fin.entries share.copies) ≡ Some copy)
+pub found : (share : Share) (q : ℕ) → is_empty (copy_of share q) ≡ false → (copy : Copy) × (find nat_cmp q (fin.entries share.copies) ≡ Some copy)
 unfolding copy_of
 found share q has = go (fin.get share.copies q) (fin.get-entries share.copies q) has
   where
@@ -44,7 +44,7 @@ found share q has = go (fin.get share.copies q) (fin.get-entries share.copies q)
 copy-is-none : (copy : Copy) → is_empty copy ≡ true → copy ≡ Absent
 copy-is-none copy e = grind arith
 
-none-conflicts : (sizes : Sizes) (share : Share) (line b : ℕ) → conflicts sizes share line ≡ false → b ≢ line → set_of sizes b ≡ set_of sizes line → is_empty (copy_of share b) ≡ true
+pub none-conflicts : (sizes : Sizes) (share : Share) (line b : ℕ) → conflicts sizes share line ≡ false → b ≢ line → set_of sizes b ≡ set_of sizes line → is_empty (copy_of share b) ≡ true
 none-conflicts sizes share line b free other same = go (is_empty (copy_of share b)) refl
   where
     go : (c : Bool) → is_empty (copy_of share b) ≡ c → c ≡ true

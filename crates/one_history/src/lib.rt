@@ -15,13 +15,18 @@ ghost use Rattle.op_model.specs.Events.Node.{EvictLine, NodeOutcome, meets_row, 
 ghost use Rattle.op_model.specs.Events.Step.{Programs, states, then_step};
 ghost use Rattle.op_model.specs.Run.Runs.{Past, run, run_from, state_of};
 ghost use Rattle.op_model.specs.Run.History.{entries_by, IsOneHistory};
-ghost use Rattle.one_history.specs.Sound.{IsOrdered, IsCached};
+ghost use Rattle.one_history.specs.Sound.{IsOrdered, IsCached, IsSound};
 
 /// The completed operations of every run, in the order in which they are served, are one history of one flat memory. What each node has served are the first operations of its program, in order. A cache set never holds two lines, nor another one than a node waits for.
 pub fn every_run()
     ensures one { (charge : Charge) (trace : Trace) (events : List Event) (past : Past) → 0 < trace.sizes.words → run charge trace events ≡ Some past → IsOneHistory charge trace events past }
     ensures ordered { (charge : Charge) (trace : Trace) (events : List Event) (past : Past) (node : ℕ) → 0 < trace.sizes.words → run charge trace events ≡ Some past → IsOrdered trace node (past.state.share node) (entries_by node past.served) }
     ensures cached { (charge : Charge) (trace : Trace) (events : List Event) (past : Past) (node : ℕ) → 0 < trace.sizes.words → run charge trace events ≡ Some past → IsCached trace.sizes (past.state.share node) }
+{}
+
+/// Every state that a run reaches is sound. A cache set holds at most one line, nor another one than its node waits for. What was served is legal on one flat memory. The entries of each node are the first operations of its program, in order, and the one that it has begun stands last where it was served. And each line is good: it is in one phase, and its phase with each node's carrier, eviction and duty spells the messages of its lanes, and says which copies, wants and words there are (`IsGood` of `line_invariant`).
+pub fn every_state()
+    ensures holds { (charge : Charge) (trace : Trace) (events : List Event) (past : Past) → 0 < trace.sizes.words → run charge trace events ≡ Some past → IsSound trace past }
 {}
 
 /// In every run the message at the front of a lane meets a row at its taker.
