@@ -1,0 +1,16 @@
+pub mod Sums
+pub mod Acts
+pub mod Effects
+pub mod Allowed
+pub mod Sends
+pub mod Homes
+pub mod Lanes
+pub mod Forwards
+pub mod Evictions
+pub mod Kept
+pub mod Events
+pub mod Runs
+pub mod Spelled
+pub mod Counts
+pub mod OwnLanes
+pub mod Ways
