@@ -1,0 +1,4 @@
+pub mod Tables
+pub mod Programs
+pub mod Rows
+pub mod Events

@@ -1,0 +1,14 @@
+pub mod Totals
+pub mod Sends
+pub mod Lighter
+pub mod Weights
+pub mod Falls
+pub mod AllTakes
+pub mod Lists
+pub mod FirstLane
+pub mod Links
+pub mod Enabled
+pub mod Quiet
+pub mod AtRest
+pub mod Deliver
+pub mod Scheduled
