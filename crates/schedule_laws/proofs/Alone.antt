@@ -1,0 +1,90 @@
+-- Whether another line stands in the cache set of a line: no conflict is found exactly where the search for one finds nothing, and that is
+-- where each other line of the set is absent.
+use Rattle.std.proofs.Common.{◌≡◌, ◌≢◌, ℕ, Bool, true, false, cond, not, ◌==◌, ◌&&◌, ◌||◌, List, [], ◌∷◌, refl, arith, ap, sym, ◌∙◌, subst, Option, Some, None, option_map}
+use Rattle.std.proofs.lemmas.Bool.Decides.{nat_tests}
+use Rattle.std.specs.List.{find, list_any}
+use Rattle.std.specs.FinMap as fin
+use Rattle.line_map.specs.Sizes.{Sizes, set_of}
+use Rattle.op_model.specs.Lines.{Absent, Copy, is_empty}
+use Rattle.op_model.specs.Run.Schedules.{other_in_set}
+use Rattle.op_model.specs.Shares.{Share, conflicts, copy_of}
+use Rattle.one_history.proofs.Sets.{any-none, none-conflicts}
+
+find-nothing : {X : Type 0} (p : X → Bool) (xs : List X) → ((x : X) → p x ≡ false) → find p xs ≡ None
+find-nothing p [] fails = refl
+find-nothing p (x ∷ xs) fails = ap (λ b. cond b (Some x) (find p xs)) (fails x) ∙ find-nothing p xs fails
+
+nothing-any : {X : Type 0} (p : X → Bool) (xs : List X) → find p xs ≡ None → list_any p xs ≡ false
+nothing-any p [] e = refl
+nothing-any {X = X} p (x ∷ xs) e = go (p x) refl e (nothing-any p xs)
+  where
+    go : (c : Bool) → p x ≡ c → ◌≡◌ {A = Option X} (cond c (Some x) (find p xs)) None → (find p xs ≡ None → list_any p xs ≡ false) → (p x || list_any p xs) ≡ false
+    go true is e later = absurd (let n : ◌≡◌ {A = Option X} (Some x) None = e in cc)
+    go false is e later = ap (λ b. b || list_any p xs) is ∙ later e
+
+found-passes : {X : Type 0} (p : X → Bool) (xs : List X) (x : X) → find p xs ≡ Some x → p x ≡ true
+found-passes {X = X} p [] x e = absurd (let n : ◌≡◌ {A = Option X} None (Some x) = e in cc)
+found-passes {X = X} p (y ∷ ys) x e = go (p y) refl e (found-passes p ys x)
+  where
+    go : (c : Bool) → p y ≡ c → ◌≡◌ {A = Option X} (cond c (Some y) (find p ys)) (Some x) → (find p ys ≡ Some x → p x ≡ true) → p x ≡ true
+    go true is e later = let same : y ≡ x = cc in ap p (sym same) ∙ is
+    go false is e later = later e
+
+copy-none : (copy : Copy) → is_empty copy ≡ true → copy ≡ Absent
+copy-none copy e = grind arith
+
+module _ (sizes : Sizes) (share : Share) (line : ℕ) where
+  -- another line of the set has a copy
+  abbrev stands : ℕ × Copy → Bool
+  stands e = (set_of sizes e.0 == set_of sizes line) && not (e.0 == line) && not (is_empty (copy_of share e.0))
+
+  -- each other line of the set is absent
+  abbrev pub IsAlone : Type 0
+  IsAlone = (g : ℕ) → g ≢ line → set_of sizes g ≡ set_of sizes line → copy_of share g ≡ Absent
+
+  pub alone-absent : conflicts sizes share line ≡ false → IsAlone
+  alone-absent free g apart same = copy-none (copy_of share g) (none-conflicts sizes share line g free apart same)
+
+  fails : IsAlone → (e : ℕ × Copy) → stands e ≡ false
+  fails alone e = go (set_of sizes e.0 == set_of sizes line) (e.0 == line) refl refl
+    where
+      go : (c d : Bool) → (set_of sizes e.0 == set_of sizes line) ≡ c → (e.0 == line) ≡ d → (c && not d && not (is_empty (copy_of share e.0))) ≡ false
+      go true false x y =
+          let same : set_of sizes e.0 ≡ set_of sizes line = grind (arith, nat_tests) in
+          let apart : e.0 ≢ line = grind (arith, nat_tests) in
+          ap (λ k. true && not false && not (is_empty k)) (alone e.0 apart same)
+      go true true x y = refl
+      go false d x y = refl
+
+  pub absent-alone : IsAlone → conflicts sizes share line ≡ false
+  absent-alone alone = any-none stands (fin.entries share.copies) (fails alone)
+
+  pub absent-other : IsAlone → other_in_set sizes share line ≡ None
+  absent-other alone = ap (option_map (λ e. e.0)) (find-nothing stands (fin.entries share.copies) (fails alone))
+
+  -- the search finds nothing, or a line of the set with a copy
+  pub other-none : other_in_set sizes share line ≡ None → conflicts sizes share line ≡ false
+  other-none e = nothing-any stands (fin.entries share.copies) (go (find stands (fin.entries share.copies)) e)
+    where
+      go : (o : Option (ℕ × Copy)) → option_map (λ x. x.0) o ≡ None → o ≡ None
+      go None e = refl
+      go (Some x) e = absurd (let n : ◌≡◌ {A = Option ℕ} (Some x.0) None = e in cc)
+
+  three : (a b c : Bool) → (a && not b && not c) ≡ true → (a ≡ true) × (b ≡ false) × (c ≡ false)
+  three a b c e = (grind arith, grind arith, grind arith)
+
+  pub other-some : (g : ℕ) → other_in_set sizes share line ≡ Some g → (set_of sizes g ≡ set_of sizes line) × (g ≢ line) × (is_empty (copy_of share g) ≡ false)
+  other-some g e = go (find stands (fin.entries share.copies)) refl e
+    where
+      go : (o : Option (ℕ × Copy)) → find stands (fin.entries share.copies) ≡ o → option_map (λ x. x.0) o ≡ Some g → (set_of sizes g ≡ set_of sizes line) × (g ≢ line) × (is_empty (copy_of share g) ≡ false)
+      go None f e = absurd (let n : ◌≡◌ {A = Option ℕ} None (Some g) = e in cc)
+      go (Some x) f e =
+          let same : x.0 ≡ g = cc in
+          let passes = three (set_of sizes x.0 == set_of sizes line) (x.0 == line) (is_empty (copy_of share x.0)) (found-passes stands (fin.entries share.copies) x f) in
+          subst (λ k. (set_of sizes k ≡ set_of sizes line) × (k ≢ line) × (is_empty (copy_of share k) ≡ false)) same (on passes.0, off passes.1, passes.2)
+        where
+          on : (set_of sizes x.0 == set_of sizes line) ≡ true → set_of sizes x.0 ≡ set_of sizes line
+          on t = grind (arith, nat_tests)
+
+          off : (x.0 == line) ≡ false → x.0 ≢ line
+          off t = grind (arith, nat_tests)
