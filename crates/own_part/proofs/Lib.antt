@@ -1,0 +1,11 @@
+pub mod Basics
+pub mod Effects
+pub mod GetRows
+pub mod BackRows
+pub mod RemoteRows
+pub mod TakeRows
+pub mod OwnRows
+pub mod ShareRows
+pub mod BegunRows
+pub mod Acts
+pub mod Runs
