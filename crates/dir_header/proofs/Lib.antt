@@ -1,0 +1,14 @@
+pub mod Numbers
+pub mod Bits
+pub mod LineSets
+pub mod Directories
+pub mod PlainLists
+pub mod Tables
+pub mod Sums
+pub mod Changes
+pub mod Calls
+pub mod Returns
+pub mod Waits
+pub mod Victims
+pub mod Start
+pub mod Shares

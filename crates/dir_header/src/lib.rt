@@ -1,0 +1,20 @@
+//! The home's part of a node: what a directory promises, headers of lines, the budget of pending lines, and the calls by which handlers change them.
+#![tactic(auto)]
+
+mod budget;
+mod header;
+mod holders;
+mod home;
+mod line_set;
+mod plain;
+mod sharers;
+#[cfg(test)]
+mod tests;
+mod words;
+
+pub use budget::Budget;
+pub use header::Header;
+pub use home::HomeSide;
+pub use op_model::{Grantee, Wait};
+pub use plain::PlainDir;
+pub use sharers::{NoRoom, Sharers};

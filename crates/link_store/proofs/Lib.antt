@@ -1,0 +1,11 @@
+pub mod Walks
+pub mod Times
+pub mod Relinked
+pub mod Steps
+pub mod Calls
+pub mod Unlinking
+pub mod Moves
+pub mod Taken
+pub mod Loops
+pub mod Homes
+pub mod First
