@@ -16,7 +16,7 @@ use Rattle.op_model.specs.Shares.{Charge, Trace, State, copy_of, program, room_o
 use Rattle.lane_bounds.proofs.Acts.{Act, after_act, after_row_of, taken_of}
 use Rattle.lane_bounds.proofs.Effects.{each-taken, row_at}
 use Rattle.rest_laws.proofs.FirstLane.{first-some}
-use Rattle.schedule_laws.specs.Courses.{sends_nak}
+use Rattle.schedule_laws.specs.Courses.{naks_sent}
 use Rattle.schedule_laws.proofs.Settled.{AllSettle, IsSettling, message-settles, settles}
 use Rattle.schedule_laws.proofs.Settling.{IsCompleting, Settles, completing-after, left_over, less-left}
 use Rattle.schedule_laws.proofs.Under.{AllSent, under-front}
@@ -64,7 +64,7 @@ module _ (charge : Charge) (trace : Trace) (usual : IsUsual trace) (past : Past)
   abbrev Fine : (State → Type 0) → Act → Type 0
   Fine P act = P (after_act sizes act state) × AllSent IsNoNak act.outcome.sends
 
-  pub taken-settles : (P : State → Type 0) → ((m : Msg) (rest : List Msg) → past.state.lane src dst class ≡ m ∷ rest → P (then_of m rest)) → P (after state done) × (sends_nak done ≡ false)
+  pub taken-settles : (P : State → Type 0) → ((m : Msg) (rest : List Msg) → past.state.lane src dst class ≡ m ∷ rest → P (then_of m rest)) → P (after state done) × (naks_sent done ≡ 0)
   unfolding after_act
   taken-settles P each =
       let met = each-taken charge trace usual.words past known.sound (Fine P) src dst class
@@ -79,7 +79,7 @@ module _ (charge : Charge) (trace : Trace) (usual : IsUsual trace) (next : State
   Completing past = IsCompleting trace.sizes line p places past.state
 
   step : (past : Past) → IsKnown charge trace past → Completing past → (lane : Lane) → first_busy trace.sizes past.state ≡ Some lane → (done : Done) → effect charge trace.sizes (program trace) past.state (delivery charge trace.sizes past.state lane) ≡ Ok done →
-      IsCompleting trace.sizes line p places (after past.state done) × (left_over trace.sizes line (after past.state done) < left_over trace.sizes line past.state) × (sends_nak done ≡ false)
+      IsCompleting trace.sizes line p places (after past.state done) × (left_over trace.sizes line (after past.state done) < left_over trace.sizes line past.state) × (naks_sent done ≡ 0)
   step past known now lane first done is =
       let inside = first-some trace.sizes past.state lane first in
       let kinds = λ (m : Msg) (rest : List Msg) (front : past.state.lane lane.src lane.dst lane.class ≡ m ∷ rest). (under-front Settles lane.src lane.dst lane.class m rest past.state.lane front now.under).0 in

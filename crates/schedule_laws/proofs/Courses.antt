@@ -1,6 +1,6 @@
 -- Courses of a schedule: one after another they are a course, a course runs, and where the schedule has no next event at its end it is
 -- the schedule, the only one: each event is determined by the state before it.
-use Rattle.std.proofs.Common.{◌≡◌, ℕ, zero, suc, ◌+◌, cond, List, [], ◌∷◌, ◌++◌, take, count_by, refl, arith, ap, sym, ◌∙◌, subst, Option, Some, None, Result, Ok, Err}
+use Rattle.std.proofs.Common.{◌≡◌, ℕ, zero, suc, ◌+◌, List, [], ◌∷◌, ◌++◌, take, sum_by, refl, arith, ap, sym, ◌∙◌, subst, Option, Some, None, Result, Ok, Err}
 use Rattle.std.proofs.lemmas.List.Sums.{sum_by-cons}
 use Rattle.line_map.specs.Sizes.{Sizes}
 use Rattle.op_model.specs.declared.events.Cause.{Cause}
@@ -10,7 +10,7 @@ use Rattle.op_model.specs.Events.Step.{Programs, Done, effect, after, and_then}
 use Rattle.op_model.specs.Run.Runs.{Past, past_after, run_by}
 use Rattle.op_model.specs.Run.Counts.{Moment, moments, moments_then}
 use Rattle.op_model.specs.Run.Schedules.{IsScheduleFrom}
-use Rattle.schedule_laws.specs.Courses.{IsCourse, sends_nak, nak_count}
+use Rattle.schedule_laws.specs.Courses.{IsCourse, naks_sent, nak_count}
 
 module _ (next : State → Option Event) (charge : Charge) (sizes : Sizes) (programs : Programs) where
   abbrev Leads : Past → List Event → Past → Type 0
@@ -29,13 +29,13 @@ module _ (next : State → Option Event) (charge : Charge) (sizes : Sizes) (prog
       ap (λ r. and_then r (λ done. run_by charge sizes programs (past_after sizes past done) events)) leads.2 ∙ course-run (past_after sizes past leads.1) end events leads.3
 
   abbrev naks : List Moment → ℕ
-  naks ms = count_by (λ (m : Moment). sends_nak m.done) ms
+  naks ms = sum_by (λ (m : Moment). naks_sent m.done) ms
 
   moments-more : (past : Past) (event : Event) (done : Done) (events : List Event) → effect charge sizes programs past.state event ≡ Ok done →
-      nak_count charge sizes programs past.state (event ∷ events) ≡ cond {A = ℕ} (sends_nak done) 1 0 + nak_count charge sizes programs (past_after sizes past done).state events
+      nak_count charge sizes programs past.state (event ∷ events) ≡ naks_sent done + nak_count charge sizes programs (past_after sizes past done).state events
   moments-more past event done events is =
       ap (λ r. naks (moments_then past.state event (λ s. moments charge sizes programs s events) r)) is
-      ∙ sum_by-cons (λ (m : Moment). cond {A = ℕ} (sends_nak m.done) 1 0) (record { before = past.state; event = event; done = done }) (moments charge sizes programs (after past.state done) events)
+      ∙ sum_by-cons (λ (m : Moment). naks_sent m.done) (record { before = past.state; event = event; done = done }) (moments charge sizes programs (after past.state done) events)
 
   -- the Naks of one course after another
   pub naks-append : (past middle : Past) (events more : List Event) → Leads past events middle →
@@ -49,7 +49,7 @@ module _ (next : State → Option Event) (charge : Charge) (sizes : Sizes) (prog
 
   -- one event that sends no Nak, or one
   pub naks-cons : (past : Past) (event : Event) (done : Done) (events : List Event) → effect charge sizes programs past.state event ≡ Ok done →
-      nak_count charge sizes programs past.state (event ∷ events) ≡ cond {A = ℕ} (sends_nak done) 1 0 + nak_count charge sizes programs (past_after sizes past done).state events
+      nak_count charge sizes programs past.state (event ∷ events) ≡ naks_sent done + nak_count charge sizes programs (past_after sizes past done).state events
   naks-cons = moments-more
 
   -- where the schedule has no next event at the end of a course, the course is the schedule

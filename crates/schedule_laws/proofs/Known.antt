@@ -21,7 +21,7 @@ use Rattle.node_range.specs.Range.{IsOfMachine, IsRanged}
 use Rattle.node_range.proofs.Events.{ranged-event, ranged-run}
 use Rattle.rest_laws.proofs.Deliver.{delivery-done}
 use Rattle.rest_laws.proofs.FirstLane.{first-none}
-use Rattle.schedule_laws.specs.Courses.{IsCourse, has_nak, is_any_nak, nak_count, sends_nak}
+use Rattle.schedule_laws.specs.Courses.{IsCourse, naks_in, is_any_nak, nak_count, naks_sent}
 use Rattle.schedule_laws.proofs.Courses.{naks-cons}
 use Rattle.schedule_laws.proofs.Under.{AllSent}
 
@@ -29,27 +29,42 @@ use Rattle.schedule_laws.proofs.Under.{AllSent}
 abbrev pub IsNoNak : Content → Type 0
 IsNoNak content = is_any_nak content ≡ false
 
--- what is sent holds no Nak
-no-nak : (line : ℕ) (sends : List (ℕ × Content)) (more : List (ℕ × Msg)) → AllSent IsNoNak sends → finds is_any_nak more ≡ false → has_nak (messages line sends ++ more) ≡ false
-no-nak line [] [] all none = refl
-no-nak line [] (send ∷ more) all none = go (is_any_nak (msg_content send.1)) none (no-nak line [] more tt)
-  where
-    go : (c : Bool) → cond c true (finds is_any_nak more) ≡ false → (finds is_any_nak more ≡ false → has_nak more ≡ false) → cond c true (has_nak more) ≡ false
-    go true e later = cc
-    go false e later = later e
-no-nak line (send ∷ sends) more all none =
-    ap (λ c. cond (is_any_nak c) true (has_nak (messages line sends ++ more))) (msg_content-message line send.1)
-    ∙ ap (λ c. cond c true (has_nak (messages line sends ++ more))) all.0 ∙ no-nak line sends more all.1 none
+-- how many Naks a row sends
+abbrev pub naks_of : List (ℕ × Content) → ℕ
+naks_of [] = 0
+naks_of (send ∷ sends) = cond {A = ℕ} (is_any_nak send.1) 1 0 + naks_of sends
 
-none-more : (c : Bool) (n : ℕ) → c ≡ false → n ≡ 0 → cond {A = ℕ} c 1 0 + n ≡ 0
-none-more true n e f = cc
-none-more false n e f = omega arith
+-- what is sent beside a row holds no Nak, and so its Naks are the row's
+row-naks : (line : ℕ) (sends : List (ℕ × Content)) (more : List (ℕ × Msg)) → finds is_any_nak more ≡ false → naks_in (messages line sends ++ more) ≡ naks_of sends
+row-naks line [] [] none = refl
+row-naks line [] (send ∷ more) none = go (is_any_nak (msg_content send.1)) none (row-naks line [] more)
+  where
+    go : (c : Bool) → cond c true (finds is_any_nak more) ≡ false → (finds is_any_nak more ≡ false → naks_in more ≡ 0) → cond {A = ℕ} c 1 0 + naks_in more ≡ 0
+    go true e later = cc
+    go false e later = let rest = later e in omega arith
+row-naks line (send ∷ sends) more none =
+    ap (λ c. cond {A = ℕ} (is_any_nak c) 1 0 + naks_in (messages line sends ++ more)) (msg_content-message line send.1)
+    ∙ ap (λ n. cond {A = ℕ} (is_any_nak send.1) 1 0 + n) (row-naks line sends more none)
+
+-- the Naks of an act are those of its row
+pub act-naks : (sizes : Sizes) (state : State) (done : Done) (made : Act) → IsActOf sizes state done made → naks_sent done ≡ naks_of made.outcome.sends
+act-naks sizes state done made is =
+    let sends = is.sends in
+    ap naks_in sends.1 ∙ row-naks made.line made.outcome.sends sends.0 (sends.2 is_any_nak refl)
+
+none-of : (sends : List (ℕ × Content)) → AllSent IsNoNak sends → naks_of sends ≡ 0
+none-of [] all = refl
+none-of (send ∷ sends) all =
+    let rest = none-of sends all.1 in
+    let first : cond {A = ℕ} (is_any_nak send.1) 1 0 ≡ 0 = ap (λ c. cond {A = ℕ} c 1 0) all.0 in
+    omega arith
 
 -- an act whose row sends no Nak sends none
-pub act-silent : (sizes : Sizes) (state : State) (done : Done) (made : Act) → IsActOf sizes state done made → AllSent IsNoNak made.outcome.sends → sends_nak done ≡ false
-act-silent sizes state done made is all =
-    let sends = is.sends in
-    ap has_nak sends.1 ∙ no-nak made.line made.outcome.sends sends.0 all (sends.2 is_any_nak refl)
+pub act-silent : (sizes : Sizes) (state : State) (done : Done) (made : Act) → IsActOf sizes state done made → AllSent IsNoNak made.outcome.sends → naks_sent done ≡ 0
+act-silent sizes state done made is all = act-naks sizes state done made is ∙ none-of made.outcome.sends all
+
+none-more : (k n : ℕ) → k ≡ 0 → n ≡ 0 → k + n ≡ 0
+none-more k n e f = omega arith
 
 -- A moment of a run: what holds of the machine, its bounds, and that nothing is at nodes that it doesn't have
 pub record IsKnown (charge : Charge) (trace : Trace) (past : Past) : Type 0 where
@@ -100,7 +115,7 @@ module _ (charge : Charge) (trace : Trace) (usual : IsUsual trace) where
 
   module _ (next : State → Option Event) (delivers : Delivers next) (Holds : Past → Type 0) (left : State → ℕ)
       (step : (past : Past) → IsKnown charge trace past → Holds past → (lane : Lane) → first_busy sizes past.state ≡ Some lane → (done : Done) → effect charge sizes (program trace) past.state (delivery charge sizes past.state lane) ≡ Ok done →
-      Holds (past_after sizes past done) × (left (after past.state done) < left past.state) × (sends_nak done ≡ false)) where
+      Holds (past_after sizes past done) × (left (after past.state done) < left past.state) × (naks_sent done ≡ 0)) where
     quiet : (past : Past) → IsKnown charge trace past → Holds past → first_busy sizes past.state ≡ None → (most : ℕ) → IsSettled next Holds past most
     quiet past known it none most =
         record { events = []; end = past; course = refl; within = omega arith; naks = refl; clear = first-none sizes past.state none; known = known; holds = it }
@@ -133,7 +148,7 @@ module _ (charge : Charge) (trace : Trace) (usual : IsUsual trace) where
               end = rest.end;
               course = (delivers past.state lane e, does.0, does.1, rest.course);
               within = omega arith;
-              naks = count ∙ none-more (sends_nak does.0) _ none naks_rest;
+              naks = count ∙ none-more (naks_sent does.0) _ none naks_rest;
               clear = rest.clear;
               known = rest.known;
               holds = rest.holds;

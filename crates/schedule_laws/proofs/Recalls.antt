@@ -18,7 +18,7 @@ use Rattle.one_history.proofs.Shares.{copy-other, copy-same}
 use Rattle.lane_bounds.proofs.Acts.{after_row_of, taken_of}
 use Rattle.lane_bounds.proofs.Homes.{headers-stay, links-after}
 use Rattle.rest_laws.proofs.FirstLane.{first-some}
-use Rattle.schedule_laws.specs.Courses.{sends_nak}
+use Rattle.schedule_laws.specs.Courses.{naks_sent}
 use Rattle.schedule_laws.proofs.Settled.{IsSettling, grants}
 use Rattle.schedule_laws.proofs.Settling.{at-share, header-there, idle-after, left_over, less-left, wait-other}
 use Rattle.schedule_laws.proofs.Under.{AllUnder, under-front, under-sent, under-taken}
@@ -197,7 +197,7 @@ module _ (charge : Charge) (trace : Trace) (usual : IsUsual trace) (next : State
   Recalled past = IsRecalled trace.sizes v p first past.state
 
   step : (past : Past) → IsKnown charge trace past → Recalled past → (lane : Lane) → first_busy trace.sizes past.state ≡ Some lane → (done : Done) → effect charge trace.sizes (program trace) past.state (delivery charge trace.sizes past.state lane) ≡ Ok done →
-      IsRecalled trace.sizes v p first (after past.state done) × (left_over trace.sizes v (after past.state done) < left_over trace.sizes v past.state) × (sends_nak done ≡ false)
+      IsRecalled trace.sizes v p first (after past.state done) × (left_over trace.sizes v (after past.state done) < left_over trace.sizes v past.state) × (naks_sent done ≡ 0)
   step past known now lane busy done is =
       let inside = first-some trace.sizes past.state lane busy in
       let recall = λ (m : Msg) (rest : List Msg) (front : past.state.lane lane.src lane.dst lane.class ≡ m ∷ rest). under-front IsRecall lane.src lane.dst lane.class m rest past.state.lane front now.under in

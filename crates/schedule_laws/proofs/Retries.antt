@@ -26,7 +26,7 @@ use Rattle.schedule_laws.proofs.Asked.{headers-kept, met, met-get, share-kept}
 use Rattle.schedule_laws.proofs.Begins.{hit-missed}
 use Rattle.schedule_laws.proofs.Gets.{asks-is, calm, free, idle, only}
 use Rattle.schedule_laws.proofs.Issues.{Chooses, asked-as, asked-begun, begins-there, issue-load, issued, lacks-then}
-use Rattle.schedule_laws.proofs.Known.{Delivers, IsKnown, IsNoNak, IsUsual}
+use Rattle.schedule_laws.proofs.Known.{Delivers, IsKnown, IsNoNak, IsUsual, naks_of}
 use Rattle.schedule_laws.proofs.Recalled.{IsCalledIn}
 use Rattle.schedule_laws.proofs.Recalls.{IsRecalled, header_at, recalls-end}
 use Rattle.schedule_laws.proofs.RestMoments.{free-at, idle-at, unlisted-at}
@@ -218,7 +218,7 @@ module _ (charge : Charge) (trace : Trace) (usual : IsUsual trace) (next : State
     pub round-wanting : IsRound charge trace usual next delivers p places then (suc ((2 * sizes.nodes - 1) + 5)) 1
     unfolding after_act
     round-wanting =
-        round-calling charge trace usual next delivers then stage.known p home m single p_in home_in p places ((2 * sizes.nodes - 1) + 5) 0 asks
+        round-calling charge trace usual next delivers then stage.known p home m single p_in home_in p places ((2 * sizes.nodes - 1) + 5) 0 asks (subst (λ l. naks_of l ≤ 1) (sym (ap (λ o. o.sends) row-is)) (omega arith))
         (λ v last fit known_last state_is. called v last known_last fit state_is)
       where
         called : (v : ℕ) (last : Past) → IsKnown charge trace last → is_fit charge sizes then.state home v ≡ true →

@@ -1,6 +1,6 @@
 -- What an operation's course comes to, put together event by event: in so many events, with no Nak, the operation of node p at its place is
 -- completed, no other is, and the machine is at rest.
-use Rattle.std.proofs.Common.{◌≡◌, ◌≢◌, ℕ, suc, ◌+◌, ◌≤◌, inl, inr, Bool, true, false, cond, List, [], ◌∷◌, ◌++◌, length, refl, arith, ap, sym, ◌∙◌, subst, Option, Some, None, is_some, Ok}
+use Rattle.std.proofs.Common.{◌≡◌, ◌≢◌, ℕ, suc, ◌+◌, ◌≤◌, inl, inr, true, false, List, [], ◌∷◌, ◌++◌, length, refl, arith, ap, sym, ◌∙◌, subst, Option, Some, None, is_some, Ok}
 use Rattle.line_map.specs.Sizes.{Sizes}
 use Rattle.op_model.specs.declared.events.Event.{Event}
 use Rattle.op_model.specs.Events.Step.{Done, effect}
@@ -11,7 +11,7 @@ use Rattle.op_model.specs.Run.Weight.{IsEmpty}
 use Rattle.op_model.specs.Shares.{Charge, Share, State, Trace, program}
 use Rattle.lane_bounds.proofs.Acts.{after_act, after_row_of, just}
 use Rattle.rest_laws.proofs.AtRest.{all-clear, rests}
-use Rattle.schedule_laws.specs.Courses.{IsCourse, nak_count, sends_nak}
+use Rattle.schedule_laws.specs.Courses.{IsCourse, nak_count, naks_sent}
 use Rattle.schedule_laws.proofs.Courses.{course-append, naks-append, naks-cons}
 use Rattle.schedule_laws.proofs.Known.{Delivers, IsKnown, IsNoNak, IsSettled, IsUsual, act-silent, known-event}
 use Rattle.schedule_laws.proofs.Settling.{IsCompleting, IsTracked, IsUnderway, left_over}
@@ -79,12 +79,12 @@ module _ (charge : Charge) (trace : Trace) (usual : IsUsual trace) (next : State
         others = λ n apart. (tracked.others n apart).1;
       }
 
-  one-more : (c : Bool) (n k naks : ℕ) → cond {A = ℕ} c 1 0 ≤ k → n ≤ naks → cond {A = ℕ} c 1 0 + n ≤ k + naks
-  one-more c n k naks e f = omega arith
+  one-more : (m n k naks : ℕ) → m ≤ k → n ≤ naks → m + n ≤ k + naks
+  one-more m n k naks e f = omega arith
 
   -- an event and then a round
   pub round-after : (p : ℕ) (places : ℕ → ℕ) (past : Past) (most naks k : ℕ) (event : Event) (done : Done) → next past.state ≡ Some event → effect charge sizes (program trace) past.state event ≡ Ok done →
-      cond {A = ℕ} (sends_nak done) 1 0 ≤ k → IsRound p places (past_after sizes past done) most naks → IsRound p places past (suc most) (k + naks)
+      naks_sent done ≤ k → IsRound p places (past_after sizes past done) most naks → IsRound p places past (suc most) (k + naks)
   round-after p places past most naks k event done chosen does few round =
       let count = naks-cons next charge sizes (program trace) past event done round.events does in
       let within = round.within in
@@ -93,7 +93,7 @@ module _ (charge : Charge) (trace : Trace) (usual : IsUsual trace) (next : State
         end = round.end;
         course = (chosen, done, does, round.course);
         within = omega arith;
-        few = subst (λ n. n ≤ k + naks) (sym count) (one-more (sends_nak done) _ k naks few round.few);
+        few = subst (λ n. n ≤ k + naks) (sym count) (one-more (naks_sent done) _ k naks few round.few);
         known = round.known;
         rests = round.rests;
         done = round.done;
@@ -145,9 +145,8 @@ module _ (charge : Charge) (trace : Trace) (usual : IsUsual trace) (next : State
   round-made p places past most naks known event node line outcome chosen made all later =
       let silent = act-silent sizes past.state made.0 (just past.state node line outcome) made.2 all in
       round-naks p places past (suc most) (0 + naks) naks (omega arith)
-      (round-after p places past most naks 0 event made.0 chosen made.1 (none (sends_nak made.0) silent)
+      (round-after p places past most naks 0 event made.0 chosen made.1 (none (naks_sent made.0) silent)
       (later (past_after sizes past made.0) (known-event charge trace usual past known event made.0 made.1) made.2.same))
     where
-      none : (c : Bool) → c ≡ false → cond {A = ℕ} c 1 0 ≤ 0
-      none true e = cc
-      none false e = omega arith
+      none : (n : ℕ) → n ≡ 0 → n ≤ 0
+      none n e = omega arith

@@ -1,5 +1,5 @@
 -- The only message under way is delivered: what its row does, with a line that is called in or without.
-use Rattle.std.proofs.Common.{◌≡◌, ℕ, suc, ◌+◌, ◌<◌, ◌≤◌, Bool, true, false, cond, List, [], ◌∷◌, refl, arith, sym, ◌∙◌, subst, Option, Some, Ok}
+use Rattle.std.proofs.Common.{◌≡◌, ℕ, suc, ◌+◌, ◌<◌, ◌≤◌, Bool, true, false, List, [], ◌∷◌, refl, arith, sym, ◌∙◌, subst, Option, Some, Ok}
 use Rattle.line_map.specs.Sizes.{Sizes}
 use Rattle.op_model.specs.declared.events.Event.{Event}
 use Rattle.op_model.specs.declared.messages.Msg.{Msg}
@@ -11,8 +11,8 @@ use Rattle.op_model.specs.Shares.{Charge, State, Trace, program}
 use Rattle.lane_bounds.proofs.Acts.{Act, after_act, after_row_of, taken_of}
 use Rattle.lane_bounds.proofs.Effects.{IsActOf, asks_victim, each-taken, is_fit, row_at, taking}
 use Rattle.rest_laws.proofs.Deliver.{delivery-done}
-use Rattle.schedule_laws.specs.Courses.{sends_nak}
-use Rattle.schedule_laws.proofs.Known.{Delivers, IsKnown, IsNoNak, IsUsual, act-silent, known-event}
+use Rattle.schedule_laws.specs.Courses.{naks_sent}
+use Rattle.schedule_laws.proofs.Known.{Delivers, IsKnown, IsNoNak, IsUsual, act-naks, act-silent, known-event, naks_of}
 use Rattle.schedule_laws.proofs.Rounds.{IsRound, round-after, round-naks}
 use Rattle.schedule_laws.proofs.Single.{OnlyOne, first-one, one-front}
 use Rattle.schedule_laws.proofs.Under.{AllSent}
@@ -20,13 +20,8 @@ use Rattle.schedule_laws.proofs.Under.{AllSent}
 same-front : (m other : Msg) (rest : List Msg) → ◌≡◌ {A = List Msg} (other ∷ rest) (m ∷ []) → (m ≡ other) × ([] ≡ rest)
 same-front m other rest e = (cc, cc)
 
-no-naks : (c : Bool) → c ≡ false → cond {A = ℕ} c 1 0 ≤ 0
-no-naks true e = cc
-no-naks false e = omega arith
-
-one-nak : (c : Bool) → cond {A = ℕ} c 1 0 ≤ 1
-one-nak true = omega arith
-one-nak false = omega arith
+no-naks : (n : ℕ) → n ≡ 0 → n ≤ 0
+no-naks n e = omega arith
 
 module _ (charge : Charge) (trace : Trace) (usual : IsUsual trace) (next : State → Option Event) (delivers : Delivers charge trace usual next)
     (past : Past) (known : IsKnown charge trace past) (node to : ℕ) (m : Msg) (only : OnlyOne node to m past.state.lane) (node_in : node < trace.sizes.nodes) (to_in : to < trace.sizes.nodes) where
@@ -88,14 +83,14 @@ module _ (charge : Charge) (trace : Trace) (usual : IsUsual trace) (next : State
         let act = alone not in
         let silent = act-silent sizes state done.0 Taken act all in
         round-naks charge trace usual next delivers p places past (suc most) (0 + naks) naks (omega arith)
-        (round-after charge trace usual next delivers p places past most naks 0 event done.0 (delivers state lane busy) done.1 (no-naks (sends_nak done.0) silent)
+        (round-after charge trace usual next delivers p places past most naks 0 event done.0 (delivers state lane busy) done.1 (no-naks (naks_sent done.0) silent)
         (later (past_after sizes past done.0) (known-event charge trace usual past known event done.0 done.1) act.same))
 
     -- a message that calls a line in
-    pub round-calling : asks ≡ true →
+    pub round-calling : asks ≡ true → naks_of (row_at charge sizes state node to (msg_line m) (msg_content m)).sends ≤ 1 →
         ((g : ℕ) (then : Past) → is_fit charge sizes state to g ≡ true → IsKnown charge trace then → then.state ≡ after_act sizes (record Taken { called = Some g }) state → IsRound charge trace usual next delivers p places then most naks) →
         IsRound charge trace usual next delivers p places past (suc most) (1 + naks)
-    round-calling asked later =
+    round-calling asked one later =
         let called = calling asked in
-        round-after charge trace usual next delivers p places past most naks 1 event done.0 (delivers state lane busy) done.1 (one-nak (sends_nak done.0))
+        round-after charge trace usual next delivers p places past most naks 1 event done.0 (delivers state lane busy) done.1 (subst (λ n. n ≤ 1) (sym (act-naks sizes state done.0 (record Taken { called = Some called.0 }) called.2)) one)
         (later called.0 (past_after sizes past done.0) called.1 (known-event charge trace usual past known event done.0 done.1) (called.2).same)

@@ -1,5 +1,5 @@
 -- A course of a schedule: a list of events, each the next one of the schedule at its place, and what an operation's course comes to.
-use Rattle.std.specs.Prelude.{◌≡◌, ◌≤◌, ◌≢◌, ℕ, suc, ◌+◌, ◌*◌, Bool, true, false, if◌then◌else◌, List, [], ◌∷◌, length, sum_by, count_by, ◌-◌, Option, Some, Ok}
+use Rattle.std.specs.Prelude.{◌≡◌, ◌≤◌, ◌≢◌, ℕ, suc, ◌+◌, ◌*◌, Bool, true, false, if◌then◌else◌, List, [], ◌∷◌, length, sum_by, ◌-◌, Option, Some, Ok}
 use Rattle.line_map.specs.Sizes.{Sizes}
 use Rattle.op_model.specs.declared.operations.Op.{Op}
 use Rattle.op_model.specs.declared.events.Event.{Event}
@@ -26,17 +26,17 @@ abbrev pub is_any_nak : Content → Bool
 is_any_nak (Nak cause) = true
 is_any_nak _ = false
 
-abbrev pub has_nak : List (ℕ × Msg) → Bool
-has_nak [] = false
-has_nak (send ∷ sends) = if is_any_nak (msg_content send.1) then true else has_nak sends
+abbrev pub naks_in : List (ℕ × Msg) → ℕ
+naks_in [] = 0
+naks_in (send ∷ sends) = (if is_any_nak (msg_content send.1) then 1 else 0) + naks_in sends
 
--- an event sends a Nak
-abbrev pub sends_nak : Done → Bool
-sends_nak done = has_nak done.out.sends
+-- how many Naks an event sends
+abbrev pub naks_sent : Done → ℕ
+naks_sent done = naks_in done.out.sends
 
--- how many events of a list send a Nak, from a state on
+-- how many Naks the events of a list send, from a state on
 abbrev pub nak_count : Charge → Sizes → Programs → State → List Event → ℕ
-nak_count charge sizes programs state events = count_by (λ (m : Moment). sends_nak m.done) (moments charge sizes programs state events)
+nak_count charge sizes programs state events = sum_by (λ (m : Moment). naks_sent m.done) (moments charge sizes programs state events)
 
 -- how many operations a node has left, and all nodes have
 abbrev pub left_at : Programs → State → ℕ → ℕ
@@ -45,7 +45,7 @@ left_at programs state node = length (programs node) - (state.share node).place
 abbrev pub left_count : Sizes → Programs → State → ℕ
 left_count sizes programs state = sum_by (left_at programs state) (all_nodes sizes)
 
--- The schedule completes this operation, within 2N + 8 events of which at most one sends a Nak, completes no other, and is at rest again
+-- The schedule completes this operation, within 2N + 8 events that send at most one Nak, completes no other, and is at rest again
 pub record IsCompleted (next : State → Option Event) (charge : Charge) (sizes : Sizes) (programs : Programs) (past : Past) (op : Op) : Type 0 where
   pub events : List Event
   pub end : Past

@@ -18,7 +18,7 @@ ghost use Rattle.node_range.specs.Range.{IsOfMachine};
 ghost use Rattle.schedule_laws.specs.Courses.{left_count, IsCompleted};
 ghost use Rattle.schedule_laws.specs.Ends.{IsInOrder, AreAllDone, FinishingRun, SerialRun};
 
-/// From rest the finishing schedule completes the next operation of the least node that has one left, within 2N + 8 events of which at most one sends a Nak, and is at rest again. It ends from every state of a run of a trace of its machine: at rest, with every program done, within the weight of the state and 2N + 8 events for each operation left, and from rest within the latter alone. It is one list of events.
+/// From rest the finishing schedule completes the next operation of the least node that has one left, within 2N + 8 events that send at most one Nak, and is at rest again. It ends from every state of a run of a trace of its machine: at rest, with every program done, within the weight of the state and 2N + 8 events for each operation left, and from rest within the latter alone. It is one list of events.
 pub fn every_finish()
     ensures operation { (charge : Charge) (trace : Trace) (before : List Event) (past : Past) (op : Op) → AreSizes trace.sizes → IsOfMachine trace → run charge trace before ≡ Some past → IsAtRest past.state → first_left (program trace) past.state (all_nodes trace.sizes) ≡ Some op → IsCompleted (finishing_next charge trace.sizes (program trace)) charge trace.sizes (program trace) past op }
     ensures ends { (charge : Charge) (trace : Trace) (before : List Event) (past : Past) → AreSizes trace.sizes → IsOfMachine trace → run charge trace before ≡ Some past → FinishingRun charge trace past (weight trace.sizes past.state + (2 * trace.sizes.nodes + 8) * left_count trace.sizes (program trace) past.state) }
