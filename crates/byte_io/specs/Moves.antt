@@ -1,7 +1,7 @@
 -- What was moved from a source or to a sink.
 use Rattle.std.specs.Prelude.{◌≡◌, ℕ, ◌+◌, ◌^◌, ◌<◌, ◌≤◌, List, length, take, Option}
 use Rattle.std.specs.Io.KnownBytes.{Consumes, Appends, IsAtEnd}
-use Rattle.byte_io.specs.Faults.{Rose}
+use Rattle.byte_io.specs.Faults.{raised}
 use Rattle.byte_io.specs.declared.moves.ReadStop.{ReadStop}
 use Rattle.byte_io.specs.declared.moves.ReadStop.TheVariants.{Fault, TooLong, Memory}
 
@@ -13,7 +13,7 @@ pub record ReadsAll (old new : Option (List ℕ)) (bytes : List ℕ) : Type 0 wh
 
 -- why reading stopped, where so many bytes had come and the count of faults stood so before and now. Want of memory may come at any time
 abbrev pub StopsAfter : ReadStop → ℕ → ℕ → ℕ → Type 0
-StopsAfter Fault count before now = (count ≤ 2 ^ 24) × Rose before now
+StopsAfter Fault count before now = (count ≤ 2 ^ 24) × (now ≡ raised before)
 StopsAfter TooLong count before now = (count ≡ 2 ^ 24 + 1) × (now ≡ before)
 StopsAfter Memory count before now = (count ≤ 2 ^ 24 + 1) × (now ≡ before)
 

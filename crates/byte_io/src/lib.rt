@@ -10,5 +10,5 @@ mod traits;
 
 pub use adapters::{StdSink, StdSource};
 pub use memory::{MemSink, MemSource};
-pub use moves::{LIMIT, ReadStop, read_all, write_all, write_pieces};
+pub use moves::{MOST_BYTES, ReadStop, read_all, write_all, write_pieces};
 pub use traits::{Failed, Sink, Source};

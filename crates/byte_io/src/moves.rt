@@ -9,7 +9,7 @@ use crate::traits::{Failed, Sink, Source};
 use std::alloc::Global;
 
 /// The most bytes that `read_all` hands out.
-pub const LIMIT: usize = 16_777_216;
+pub const MOST_BYTES: usize = 16_777_216;
 
 /// How many bytes a read is asked for at once.
 const PIECE: usize = 8192;
@@ -19,13 +19,13 @@ const PIECE: usize = 8192;
 pub enum ReadStop {
     /// A read failed.
     Fault,
-    /// More than `LIMIT` bytes came. One byte more than these was read.
+    /// More than `MOST_BYTES` bytes came. One byte more than these was read.
     TooLong,
     /// Want of memory.
     Memory,
 }
 
-/// All bytes of a source, which are at most `LIMIT`. It ends with the first read that fails.
+/// All bytes of a source, which are at most `MOST_BYTES`. It ends with the first read that fails.
 pub fn read_all<S: Source>(alloc: Global, source: &mut S) -> Result<Vec<u8>, ReadStop>
     ensures whole { IfOk result (λ v. ReadsAll (S.left source.old) (S.left source.new) v.items) }
     ensures stop { IfErr result (λ e. ReadsUntil (S.left source.old) (S.left source.new) (S.faults source.old) (S.faults source.new) e) }
@@ -34,8 +34,8 @@ pub fn read_all<S: Source>(alloc: Global, source: &mut S) -> Result<Vec<u8>, Rea
 {
     let mut bytes: Vec<u8> = Vec::new(alloc);
     let mut piece = [0u8; PIECE];
-    while bytes.len() <= LIMIT {
-        let room = (LIMIT + 1 - bytes.len()).min(PIECE);
+    while bytes.len() <= MOST_BYTES {
+        let room = (MOST_BYTES + 1 - bytes.len()).min(PIECE);
         match source.read(&mut piece[..room]) {
             Ok(0) => return Ok(bytes),
             Ok(count) => match bytes.extend_from_slice(&piece[..count]) {

@@ -3,7 +3,7 @@
 ghost use Rattle.std.specs.Prelude.{◌<◌};
 
 use crate::{
-    Failed, LIMIT, MemSink, MemSource, ReadStop, Sink, Source, StdSink, StdSource, read_all,
+    Failed, MOST_BYTES, MemSink, MemSource, ReadStop, Sink, Source, StdSink, StdSource, read_all,
     write_all, write_pieces,
 };
 use std::alloc::Global;
@@ -116,12 +116,12 @@ fn reads_on_after_a_fault(rt: HostRuntime) -> Result<(), Fail> {
 
 #[test]
 fn stops_where_the_bytes_are_too_many(rt: HostRuntime) -> Result<(), Fail> {
-    let most = vec![in rt.alloc(); 35u8; LIMIT]?;
+    let most = vec![in rt.alloc(); 35u8; MOST_BYTES]?;
     let mut source = MemSource::new(most, 1_000_000, Vec::new(rt.alloc()));
     let bytes = read_all(rt.alloc(), &mut source).map_err(|_| "no limit is passed")?;
     assert_eq!(rt; bytes.len(), 16_777_216);
 
-    let more = vec![in rt.alloc(); 35u8; LIMIT + 3]?;
+    let more = vec![in rt.alloc(); 35u8; MOST_BYTES + 3]?;
     let mut source = MemSource::new(more, 1_000_000, Vec::new(rt.alloc()));
     let stop = read_all(rt.alloc(), &mut source);
     assert!(rt; matches!(stop, Err(ReadStop::TooLong)));
@@ -326,7 +326,10 @@ fn goes_over_std(rt: HostRuntime) -> Result<(), Fail> {
     let mut held: Vec<u8> = Vec::new(rt.alloc());
     let mut sink = StdSink::new(&mut held);
     assert_eq!(rt; write_pieces(&mut sink, &[TEXT, b"", TEXT]), Ok(()));
-    assert_eq!(rt; held.len(), 50);
+    assert_eq!(rt;
+        held.as_slice(),
+        b"abcdefghijklmnopqrstuvwxyabcdefghijklmnopqrstuvwxy".as_slice()
+    );
 
     let mut broken = StdSource::new(Broken);
     let stop = read_all(rt.alloc(), &mut broken);

@@ -10,9 +10,9 @@ use Rattle.line_map.specs.Sizes.{set_of}
 use Rattle.op_model.specs.declared.CopyState.{CopyState}
 use Rattle.op_model.specs.declared.CopyState.TheVariants as state
 use Rattle.op_model.specs.Lines.{Copy, Absent, Shared, Exclusive, state_of, is_empty}
-use Rattle.op_model.specs.Shares.{put_copy}
+use Rattle.op_model.specs.Shares.{put_copy, Copies, copy_in}
 use Rattle.cpu_cache.specs.declared.cache.Slot.{Slot}
-use Rattle.cpu_cache.specs.Caches.{Copies, CacheView, IsDirectMapped, copy_in, is_set_free, with_copy}
+use Rattle.cpu_cache.specs.Caches.{CacheView, IsDirectMapped, is_set_free, with_copy}
 use Rattle.cpu_cache.specs.Slots.{held, PutsSlot}
 use Rattle.cpu_cache.proofs.Sets.{none_in_free}
 

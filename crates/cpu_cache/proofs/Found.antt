@@ -10,9 +10,9 @@ use Rattle.std.specs.FinMap as fin
 use Rattle.line_map.specs.Sizes.{Sizes, set_of}
 use Rattle.op_model.specs.Lines.{Copy}
 use Rattle.op_model.specs.Lines.{Shared as SharedCopy, Exclusive as ExclusiveCopy}
+use Rattle.op_model.specs.Shares.{Copies}
 use Rattle.cpu_cache.specs.declared.cache.Slot.{Slot}
 use Rattle.cpu_cache.specs.declared.cache.Slot.TheVariants.{Empty, Shared, Exclusive}
-use Rattle.cpu_cache.specs.Caches.{Copies}
 use Rattle.cpu_cache.specs.Slots.{held, with_slot, copies_in, FitsSet, AreSlots}
 
 -- what the first slot has that has anything of the line

@@ -10,7 +10,8 @@ use Rattle.std.specs.FinMap.{find}
 use Rattle.line_map.specs.Sizes.{all_lines, set_of}
 use Rattle.op_model.specs.Lines.{Copy, Absent, is_empty}
 use Rattle.op_model.specs.Lines.{Shared as SharedCopy, Exclusive as ExclusiveCopy}
-use Rattle.cpu_cache.specs.Caches.{CacheView, IsResident, copy_in, stands, is_set_free, is_set_taken}
+use Rattle.op_model.specs.Shares.{copy_in}
+use Rattle.cpu_cache.specs.Caches.{CacheView, IsResident, stands, is_set_free, is_set_taken}
 use Rattle.cpu_cache.specs.declared.cache.Slot.{Slot}
 use Rattle.cpu_cache.specs.declared.cache.Slot.TheVariants.{Empty, Shared, Exclusive}
 use Rattle.cpu_cache.specs.Slots.{held, FitsSet, IsSlotOf}

@@ -2,8 +2,8 @@
 use Rattle.std.specs.Prelude.{◌≡◌, ℕ, Bool, refl}
 use Rattle.line_map.specs.Sizes.{Sizes}
 use Rattle.op_model.specs.Lines.{LineShare}
-use Rattle.op_model.specs.Shares.{Share, copy_of, put_share, is_set_empty, conflicts}
-use Rattle.cpu_cache.specs.Caches.{CacheView, copy_in, is_set_free, is_set_taken, with_copy}
+use Rattle.op_model.specs.Shares.{Share, copy_of, put_share, is_set_empty, conflicts, copy_in}
+use Rattle.cpu_cache.specs.Caches.{CacheView, is_set_free, is_set_taken, with_copy}
 
 -- the cache that has the copies of a share
 abbrev pub cache_in : Sizes → Share → CacheView

@@ -1,29 +1,17 @@
 -- What a cache holds: at most one line in each of its sets, with a copy of it.
 use Rattle.std.specs.Prelude.{◌≡◌, ◌<◌, ℕ, Bool, true, false, ◌==◌, not, ◌&&◌, length, is_some, ◌⊎◌, unwrap_or, refl}
-use Rattle.std.specs.List.{list_any}
-use Rattle.std.specs.Ordering.{nat_cmp}
 use Rattle.std.specs.FinMap as fin
-use Rattle.std.specs.Coded.{Coded, code_by, coded×, coded⊎, coded_ℕ, coded_list}
-use Rattle.std.proofs.Common.{inl, inr}
-use base.Stored.{coded_unit}
+use Rattle.std.specs.Coded.{Coded, code_by, coded×, coded_ℕ}
 use Rattle.line_map.specs.Sizes.{Sizes, all_lines, set_of}
 pub use Rattle.op_model.specs.Lines.{Copy, Absent, Shared, Exclusive, state_of, words_of, is_empty}
 pub use Rattle.op_model.specs.Shares.{put_copy}
-use Rattle.op_model.specs.Codes.{sizes_code}
-use Rattle.op_model.specs.Operations.{Words}
-
--- the copies of a node's cache, by the lines that they are of
-abbrev pub Copies : Type 0
-Copies = fin.FinMap nat_cmp Copy
+use Rattle.op_model.specs.Shares.{Copies, copy_in, is_set_free as free_among, is_set_taken as taken_among}
+use Rattle.op_model.specs.Codes.{sizes_code, copy_code}
 
 -- A cache: its machine, and the copies that it holds
 pub record CacheView : Type 0 where
   pub sizes : Sizes
   pub copies : Copies
-
--- the copy of a line
-abbrev pub copy_in : Copies → ℕ → Copy
-copy_in copies line = unwrap_or (fin.get copies line) Absent
 
 -- whether the other line has a copy, which stands in the set of this line
 abbrev pub stands : CacheView → ℕ → ℕ → Bool
@@ -31,11 +19,11 @@ stands cache line other = (set_of cache.sizes other == set_of cache.sizes line) 
 
 -- whether the set of a line is empty
 abbrev pub is_set_free : CacheView → ℕ → Bool
-is_set_free cache line = not (list_any (λ e. stands cache line e.0) (fin.entries cache.copies))
+is_set_free cache line = free_among cache.sizes cache.copies line
 
 -- whether the set of a line holds another line than this one
 abbrev pub is_set_taken : CacheView → ℕ → Bool
-is_set_taken cache line = list_any (λ e. (set_of cache.sizes e.0 == set_of cache.sizes line) && not (e.0 == line) && not (is_empty (copy_in cache.copies e.0))) (fin.entries cache.copies)
+is_set_taken cache line = taken_among cache.sizes cache.copies line
 
 -- the line that stands in the set of a line. No other line of that set has a copy
 pub record IsResident (cache : CacheView) (line : ℕ) (resident : ℕ) : Type 0 where
@@ -55,24 +43,6 @@ pub record IsDirectMapped (cache : CacheView) : Type 0 where
 abbrev pub with_copy : CacheView → ℕ → Copy → CacheView
 with_copy cache line copy = record cache { copies = put_copy cache.copies line copy }
 
--- how the parts of a cache are stored, so that a cache is a value
-abbrev split : Copy → Unit {0} ⊎ (Words ⊎ Words)
-split Absent = inl tt
-split (Shared words) = inr (inl words)
-split (Exclusive words) = inr (inr words)
-
-abbrev join : Unit {0} ⊎ (Words ⊎ Words) → Copy
-join (inl u) = Absent
-join (inr (inl words)) = Shared words
-join (inr (inr words)) = Exclusive words
-
-pub join-split : (copy : Copy) → join (split copy) ≡ copy
-join-split Absent = refl
-join-split (Shared words) = refl
-join-split (Exclusive words) = refl
-
-abbrev pub copy_code : Coded Copy
-copy_code = code_by (Unit {0} ⊎ (Words ⊎ Words)) (coded⊎ coded_unit (coded⊎ (coded_list coded_ℕ) (coded_list coded_ℕ))) split join join-split
-
+-- how a cache is stored, so that it is a value
 abbrev pub cache_code : Coded CacheView
 cache_code = code_by (Sizes × Copies) (coded× sizes_code (fin.code coded_ℕ copy_code)) (λ c. (c.sizes, c.copies)) (λ p. record { sizes = p.0; copies = p.1 }) (λ _. refl)

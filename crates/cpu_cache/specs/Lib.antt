@@ -1,3 +1,4 @@
 pub mod Caches
 pub mod Slots
 pub mod Processors
+pub mod Effects

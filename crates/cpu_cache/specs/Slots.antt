@@ -4,9 +4,10 @@ use Rattle.std.specs.FinMap as fin
 use Rattle.line_map.specs.Sizes.{Sizes, all_lines, set_of}
 use Rattle.op_model.specs.Lines.{Copy}
 use Rattle.op_model.specs.Lines.{Shared as SharedCopy, Exclusive as ExclusiveCopy}
+use Rattle.op_model.specs.Shares.{Copies}
 use Rattle.cpu_cache.specs.declared.cache.Slot.{Slot}
 use Rattle.cpu_cache.specs.declared.cache.Slot.TheVariants.{Empty, Shared, Exclusive}
-use Rattle.cpu_cache.specs.Caches.{Copies, CacheView}
+use Rattle.cpu_cache.specs.Caches.{CacheView}
 
 -- the copy of a line that a slot has
 abbrev pub held : ℕ → Slot → Option Copy

@@ -5,7 +5,8 @@ ghost use Rattle.std.specs.FinMap as fin;
 ghost use Rattle.line_map.specs.Sizes.{all_lines, all_words, line_of, place_of, set_of};
 ghost use Rattle.op_model.specs.Lines.{Absent, Shared as SharedCopy, Exclusive as ExclusiveCopy, state_of, words_of};
 ghost use Rattle.op_model.specs.Operations.{is_load, entry_of, after_op};
-ghost use Rattle.cpu_cache.specs.Caches.{copy_in, is_set_free, is_set_taken, IsDirectMapped, IsResident, with_copy};
+ghost use Rattle.op_model.specs.Shares.{copy_in};
+ghost use Rattle.cpu_cache.specs.Caches.{is_set_free, is_set_taken, IsDirectMapped, IsResident, with_copy};
 ghost use Rattle.cpu_cache.specs.Slots.{IsSlotOf, PutsSlot, FitsSet};
 
 use line_map::{Addr, Body, Machine};

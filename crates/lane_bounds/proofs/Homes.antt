@@ -7,7 +7,7 @@ use Rattle.std.specs.FinMap.{gets}
 use Rattle.line_map.specs.Sizes.{Sizes}
 use Rattle.op_model.specs.Lines.{Header, LineShare, is_pending}
 use Rattle.op_model.specs.Nodes.{listings}
-use Rattle.op_model.specs.Shares.{Charge, Share, first_header, header_of, held_links, is_linked, links_in, pending_lines, put_share, room_of}
+use Rattle.op_model.specs.Shares.{Charge, Share, first_header, header_of, held_links, is_linked, links_in, pending_lines, put_share, room_of, header_in}
 use Rattle.lane_bounds.proofs.Allowed.{IsAllowed}
 use Rattle.lane_bounds.proofs.Sums.{amount, over-insert}
 
@@ -26,7 +26,7 @@ taken-bound new old limit after before (inr h) e le = let free = h.1 in let more
 
 module _ (charge : Charge) (sizes : Sizes) (share : Share) where
   pub amount-header : (f : Header → ℕ) (line : ℕ) → f (first_header sizes) ≡ 0 → amount f (fin.get share.headers line) ≡ f (header_of sizes share line)
-  unfolding header_of
+  unfolding header_in
   amount-header f line none = go (fin.get share.headers line)
     where
       go : (o : Option Header) → amount f o ≡ f (unwrap_or o (first_header sizes))

@@ -20,7 +20,7 @@ pub fn every_home()
     ensures links { (trace : Trace) (events : List Event) (past : Past) (n : ℕ) → 0 < trace.sizes.words → run Linked trace events ≡ Some past → held_links (past.state.share n) ≤ trace.sizes.links }
 {}
 
-/// A lane holds a limited number of messages. One of requests holds a limited number of write-backs and hints, at most a request of its node, and one message for each pending line; one of replies at most an answer, and one message for each pending line. No node sends to itself.
+/// A lane holds a limited number of messages: one of requests at most P + 1 + E, of them at most E writebacks and hints, and one of replies at most P + 1, where P lines of a home may be pending and E is the gate on evictions. No node sends to itself.
 pub fn every_lane()
     ensures departures { (charge : Charge) (trace : Trace) (events : List Event) (past : Past) (a b : ℕ) → 0 < trace.sizes.words → run charge trace events ≡ Some past → departures (past.state.lane a b Request) ≤ trace.sizes.evicts }
     ensures requests { (charge : Charge) (trace : Trace) (events : List Event) (past : Past) (a b : ℕ) → 0 < trace.sizes.words → run charge trace events ≡ Some past → length (past.state.lane a b Request) ≤ request_bound trace.sizes }

@@ -9,4 +9,4 @@ mod tests;
 
 pub use address::{Addr, BadAddr};
 pub use body::Body;
-pub use machine::{Field, Machine, OutOfRange, fits};
+pub use machine::{Field, MOST_NODES, Machine, OutOfRange, fits};

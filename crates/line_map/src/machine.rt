@@ -6,6 +6,9 @@ ghost use Rattle.line_map.specs.Sizes.{Sizes, AreSizes, sizes_of, in_limits, all
 use crate::address::{Addr, BadAddr};
 use std::marker::Model;
 
+/// The most nodes that a machine has.
+pub const MOST_NODES: usize = 64;
+
 /// The sizes of a machine, in the order in which they are given.
 #[derive(Clone, Copy, Debug, PartialEq, Eq)]
 pub enum Field {
@@ -86,7 +89,7 @@ pub fn fits(field: Field, value: u64) -> bool
     ensures { result ≡ in_limits field value }
 {
     match field {
-        Field::Nodes => 2 <= value && value <= 64,
+        Field::Nodes => 2 <= value && value <= MOST_NODES as u64,
         Field::Lines => 1 <= value && value <= 4096,
         Field::Words => value == 1 || value == 2 || value == 4 || value == 8 || value == 16,
         Field::Links => 1 <= value && value <= 65535,

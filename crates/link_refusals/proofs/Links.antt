@@ -12,7 +12,7 @@ use Rattle.op_model.specs.Messages.{Content, msg_content, msg_line}
 use Rattle.op_model.specs.Nodes.{count}
 use Rattle.op_model.specs.Run.Counts.{is_nak}
 use Rattle.op_model.specs.Run.Runs.{Past, run}
-use Rattle.op_model.specs.Shares.{Charge, State, Trace, first_header, header_of, program, room_of, share_at}
+use Rattle.op_model.specs.Shares.{Charge, State, Trace, first_header, header_of, program, room_of, share_at, header_in}
 use Rattle.op_model.specs.Tables.Home.{wants_victim}
 use Rattle.op_model.specs.Tables.Processor.{call_in, holds_link}
 use Rattle.op_model.specs.declared.events.Class.{Class}
@@ -56,7 +56,7 @@ module _ (charge : Charge) (sizes : Sizes) (state : State) (bounded : IsBounded 
 
   -- a pending line that holds a link
   pending-line : (room_of charge sizes (state.share dst)).link_pending ≡ true → IsLinkPending sizes state dst
-  unfolding header_of
+  unfolding header_in
   pending-line is =
       let f : Found (λ h. is_pending h && nat_lt 1 (count h.list)) (fin.entries (state.share dst).headers) = found (λ h. is_pending h && nat_lt 1 (count h.list)) (fin.entries (state.share dst).headers) (fin.entries_sorted (state.share dst).headers) is in
       let at : fin.get (state.share dst).headers f.0 ≡ Some f.1 = fin.get-entries (state.share dst).headers f.0 ∙ f.2 in

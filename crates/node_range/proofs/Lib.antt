@@ -2,3 +2,4 @@ pub mod Tables
 pub mod Programs
 pub mod Rows
 pub mod Events
+pub mod Traces

@@ -17,7 +17,7 @@ use Rattle.op_model.specs.Flat.{flat_at}
 use Rattle.op_model.specs.Lines.{Absent}
 use Rattle.op_model.specs.Run.History.{entries_by}
 use Rattle.op_model.specs.Run.Runs.{Past, past_after, run, run_from, start, start_share}
-use Rattle.op_model.specs.Shares.{Charge, Trace, copy_of, first_header, first_headers, header_of, program}
+use Rattle.op_model.specs.Shares.{Charge, Trace, copy_of, first_header, first_headers, header_of, program, header_in}
 use Rattle.line_invariant.specs.Good.{IsGood}
 use Rattle.line_invariant.specs.Line.{first_line}
 use Rattle.line_invariant.proofs.FirstLine.{good-first}
@@ -39,7 +39,7 @@ firsts sizes (line ∷ lines) q = ap (λ o. unwrap_or o (first_header sizes)) (f
     go false e = e
 
 pub first-header : (sizes : Sizes) (node line : ℕ) → header_of sizes (start_share sizes node) line ≡ first_header sizes
-unfolding header_of
+unfolding header_in
 first-header sizes node line = firsts sizes (range_with_len (node * sizes.lines) sizes.lines) line
 
 first-words : (size line : ℕ) → words_at size fin.empty line ≡ replicate size 0

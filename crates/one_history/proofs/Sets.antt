@@ -45,6 +45,7 @@ copy-is-none : (copy : Copy) → is_empty copy ≡ true → copy ≡ Absent
 copy-is-none copy e = grind arith
 
 pub none-conflicts : (sizes : Sizes) (share : Share) (line b : ℕ) → conflicts sizes share line ≡ false → b ≢ line → set_of sizes b ≡ set_of sizes line → is_empty (copy_of share b) ≡ true
+unfolding copy_of
 none-conflicts sizes share line b free other same = go (is_empty (copy_of share b)) refl
   where
     go : (c : Bool) → is_empty (copy_of share b) ≡ c → c ≡ true
@@ -75,6 +76,7 @@ kept-begun false b e = refl
 
 -- the set of a line that a node waits for is empty
 pub waits-alone : (sizes : Sizes) (share : Share) (line : ℕ) (op : Op) (marked : Bool) → IsCached sizes share → want_on sizes share.want line ≡ wanting op marked → copy_of share line ≡ Absent → is_set_empty sizes share line ≡ true
+unfolding copy_of
 waits-alone sizes share line op marked cached wants empty = ap not (any-none _ (fin.entries share.copies) (λ e. none e.0))
   where
     none : (q : ℕ) → ((set_of sizes q == set_of sizes line) && not (is_empty (copy_of share q))) ≡ false

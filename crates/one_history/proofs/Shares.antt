@@ -14,7 +14,7 @@ use Rattle.op_model.specs.Events.Step.{put_at, to_lane}
 use Rattle.op_model.specs.Lines.{Absent, Copy, Exclusive, LineShare, Outcome, Shared}
 use Rattle.op_model.specs.Messages.{Content, class_of, message, msg_content, msg_content-message, msg_line, msg_line-message, same_class}
 use Rattle.op_model.specs.Run.Runs.{Past, entries_of}
-use Rattle.op_model.specs.Shares.{Lanes, Share, State, copy_of, first_header, header_of, put_copy, put_share, want_after, want_on}
+use Rattle.op_model.specs.Shares.{Lanes, Share, State, copy_of, first_header, header_of, put_copy, put_share, want_after, want_on, header_in}
 use Rattle.line_invariant.specs.Line.{addressed}
 use Rattle.one_history.specs.Project.{of_line}
 
@@ -57,11 +57,11 @@ module _ (sizes : Sizes) (at_home : Bool) (line : ℕ) (done : Bool) (row : Line
   copy-other q other = rw (copies-other share.copies line q row.copy other)
 
   pub header-same : at_home ≡ true → header_of sizes (put_share sizes at_home line done row share) line ≡ row.header
-  unfolding header_of put_share
+  unfolding header_in put_share
   header-same home = rw home (grind (arith, nat_tests, gets))
 
   pub header-other : (q : ℕ) → (q ≢ line) ⊎ (at_home ≡ false) → header_of sizes (put_share sizes at_home line done row share) q ≡ header_of sizes share q
-  unfolding header_of put_share
+  unfolding header_in put_share
   header-other q other = ap (λ o. unwrap_or o (first_header sizes)) (kept at_home other)
     where
       kept : (b : Bool) → (q ≢ line) ⊎ (b ≡ false) → fin.get (cond b (fin.insert share.headers line row.header) share.headers) q ≡ fin.get share.headers q

@@ -16,6 +16,7 @@ use Rattle.own_part.proofs.Basics.{empty-copy, turned}
 
 -- a set is empty exactly where each line of it has no copy
 pub all-empty : (sizes : Sizes) (share : Share) (line b : ℕ) → is_set_empty sizes share line ≡ true → set_of sizes b ≡ set_of sizes line → is_empty (copy_of share b) ≡ true
+unfolding copy_of
 all-empty sizes share line b alone same = go (is_empty (copy_of share b)) refl
   where
     go : (c : Bool) → is_empty (copy_of share b) ≡ c → c ≡ true
@@ -28,6 +29,7 @@ all-empty sizes share line b alone same = go (is_empty (copy_of share b)) refl
         let d : true ≡ false = sym any ∙ turned _ alone in cc
 
 pub empty-set : (sizes : Sizes) (share : Share) (line : ℕ) → ((b : ℕ) → set_of sizes b ≡ set_of sizes line → is_empty (copy_of share b) ≡ true) → is_set_empty sizes share line ≡ true
+unfolding copy_of
 empty-set sizes share line each = ap not (any-none (λ e. (set_of sizes e.0 == set_of sizes line) && not (is_empty (copy_of share e.0))) (fin.entries share.copies) (λ e. none e.0))
   where
     none : (q : ℕ) → ((set_of sizes q == set_of sizes line) && not (is_empty (copy_of share q))) ≡ false

@@ -13,7 +13,7 @@ use Rattle.op_model.specs.Events.Node.{meets_row, is_get, asks_victim, fits_vict
 use Rattle.op_model.specs.Lines.{Header, Room, is_pending, nobody_listed}
 use Rattle.op_model.specs.Messages.{msg_content, msg_line}
 use Rattle.op_model.specs.Nodes.{listed, count}
-use Rattle.op_model.specs.Shares.{Charge, is_linked, Share, header_of, first_header, line_share, room_of, links_in, held_links}
+use Rattle.op_model.specs.Shares.{Charge, is_linked, Share, header_of, first_header, line_share, room_of, links_in, held_links, header_in}
 use Rattle.op_model.specs.Tables.Home.{wants_victim}
 use Rattle.op_model.specs.Tables.Processor.{holds_link}
 use Rattle.lane_bounds.proofs.Sums.{over, over-cons}
@@ -46,7 +46,7 @@ entry-own sizes share home own line header is = go (home_of sizes line == home) 
     go false e = absurd (let far : home_of sizes line ≢ home = grind (arith, nat_tests) in let n : ◌≡◌ {A = Option Header} None (Some header) = sym (own line far) ∙ is in cc)
 
 pub header-found : (sizes : Sizes) (share : Share) (line : ℕ) (header : Header) → fin.get share.headers line ≡ Some header → header_of sizes share line ≡ header
-unfolding header_of
+unfolding header_in
 header-found sizes share line header is = ap (λ o. unwrap_or o (first_header sizes)) is
 
 -- a line is asked for only where links are counted, none is free, and no pending line holds one

@@ -57,6 +57,7 @@ module _ (sizes : Sizes) (share : Share) (line : ℕ) where
       go false d x y = refl
 
   pub absent-alone : IsAlone → conflicts sizes share line ≡ false
+  unfolding copy_of
   absent-alone alone = any-none stands (fin.entries share.copies) (fails alone)
 
   pub absent-other : IsAlone → other_in_set sizes share line ≡ None
@@ -64,6 +65,7 @@ module _ (sizes : Sizes) (share : Share) (line : ℕ) where
 
   -- the search finds nothing, or a line of the set with a copy
   pub other-none : other_in_set sizes share line ≡ None → conflicts sizes share line ≡ false
+  unfolding copy_of
   other-none e = nothing-any stands (fin.entries share.copies) (go (find stands (fin.entries share.copies)) e)
     where
       go : (o : Option (ℕ × Copy)) → option_map (λ x. x.0) o ≡ None → o ≡ None

@@ -5,7 +5,7 @@ use Rattle.op_model.specs.Nodes.{listings}
 use Rattle.op_model.specs.Operations.{after_op}
 use Rattle.op_model.specs.Tables.Home.{wants_victim, on_get, on_getx, on_inv_ack, on_shwb, on_fack, on_nakc, on_wb, on_rpl}
 use Rattle.op_model.specs.Tables.Remote.{meets, row_of, on_message}
-use Rattle.op_model.specs.Shares.{copy_of, header_of, put_share}
+use Rattle.op_model.specs.Shares.{copy_of, header_of, put_share, header_in}
 use Rattle.op_model.specs.Events.Node.{meets_row, local}
 use Rattle.row_examples.proofs.Sets.{orders, more_or_less}
 use Rattle.row_examples.proofs.Maps.{maps, put-1-of-2, put-1-of-3, put-put, remove-empty}
@@ -20,7 +20,7 @@ unfolding on_message meets row_of on_get
 returns-clause-h2 c = simp listings refl
 
 pub returns-clause-h2_node : goal.returns-clause-h2_node
-unfolding local put_share copy_of header_of meets_row meets wants_victim on_message row_of on_get
+unfolding local put_share copy_of header_in meets_row meets wants_victim on_message row_of on_get
 returns-clause-h2_node c = simp (listings, maps, put-1-of-2, remove-empty) refl
 
 pub returns-clause-h3 : goal.returns-clause-h3
@@ -28,7 +28,7 @@ unfolding on_message meets row_of on_get
 returns-clause-h3 c = simp (listings, more_or_less) refl
 
 pub returns-clause-h3_node : goal.returns-clause-h3_node
-unfolding local put_share copy_of header_of meets_row meets wants_victim on_message row_of on_get
+unfolding local put_share copy_of header_in meets_row meets wants_victim on_message row_of on_get
 returns-clause-h3_node c = simp (listings, maps, put-1-of-3, remove-empty) refl
 
 pub returns-clause-h4 : goal.returns-clause-h4
@@ -36,7 +36,7 @@ unfolding on_message meets row_of on_get
 returns-clause-h4 c = simp (listings, more_or_less) refl
 
 pub returns-clause-h4_node : goal.returns-clause-h4_node
-unfolding local put_share copy_of header_of meets_row meets wants_victim on_message row_of on_get
+unfolding local put_share copy_of header_in meets_row meets wants_victim on_message row_of on_get
 returns-clause-h4_node c = simp (listings, orders, maps, put-1-of-2, put-put, remove-empty) refl
 
 pub returns-clause-h5 : goal.returns-clause-h5
@@ -48,7 +48,7 @@ unfolding on_message meets row_of on_get
 returns-clause-h6 c = simp listings refl
 
 pub returns-clause-h6_node : goal.returns-clause-h6_node
-unfolding local put_share copy_of header_of meets_row meets wants_victim on_message row_of on_get
+unfolding local put_share copy_of header_in meets_row meets wants_victim on_message row_of on_get
 returns-clause-h6_node c = simp (listings, maps, put-1-of-2, remove-empty) refl
 
 pub returns-clause-h7 : goal.returns-clause-h7

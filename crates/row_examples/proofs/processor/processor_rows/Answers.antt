@@ -6,7 +6,7 @@ use Rattle.op_model.specs.Nodes.{listings}
 use Rattle.op_model.specs.Operations.{after_op}
 use Rattle.op_model.specs.Lines.{Shared}
 use Rattle.op_model.specs.Tables.Processor.{hit, ask, begin_at_home, begin_op, evict, reclaim}
-use Rattle.op_model.specs.Shares.{copy_of, header_of, put_share}
+use Rattle.op_model.specs.Shares.{copy_of, header_of, put_share, header_in}
 use Rattle.op_model.specs.Events.Node.{local}
 use Rattle.row_examples.specs.Machines.{machine, share_with}
 use Rattle.row_examples.proofs.Sets.{orders}
@@ -23,11 +23,11 @@ unfolding local copy_of put_share begin_op ask
 returns-clause-p1_node c = simp (maps, remove-empty) refl
 
 pub returns-clause-p4_node : goal.returns-clause-p4_node
-unfolding local copy_of header_of put_share begin_op begin_at_home after_op
+unfolding local copy_of header_in put_share begin_op begin_at_home after_op
 returns-clause-p4_node c = simp (listings, maps) refl
 
 pub returns-clause-hit_next : goal.returns-clause-hit_next
-unfolding local hit copy_of header_of put_share after_op
+unfolding local hit copy_of header_in put_share after_op
 returns-clause-hit_next c = simp (maps, put-put) refl
 
 pub returns-clause-p11_gate : goal.returns-clause-p11_gate

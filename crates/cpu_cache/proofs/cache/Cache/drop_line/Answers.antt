@@ -3,8 +3,8 @@ use Rattle.std.proofs.Common.{◌≢◌, sym, subst}
 use Rattle.op_model.specs.Lines.{Absent, state_of}
 use Rattle.op_model.specs.declared.CopyState.{CopyState}
 use Rattle.op_model.specs.declared.CopyState.TheVariants as state
+use Rattle.op_model.specs.Shares.{copy_in}
 use Rattle.cpu_cache.specs.declared.cache.Slot.TheVariants.{Empty}
-use Rattle.cpu_cache.specs.Caches.{copy_in}
 use Rattle.cpu_cache.proofs.Copies.{put_over, dropped_none, is_there, nothing_held}
 use Rattle.cpu_cache.proofs.cache.Cache.drop_line.Goals as goal
 
