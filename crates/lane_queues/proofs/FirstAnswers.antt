@@ -5,16 +5,20 @@ use Rattle.line_map.specs.Sizes.{Sizes}
 use Rattle.op_model.specs.declared.events.Class.{Class}
 use Rattle.op_model.specs.declared.messages.Msg.{Msg}
 use Rattle.op_model.specs.Shares.{Lanes}
-use Rattle.op_model.specs.Run.Schedules.{is_no_message}
+use Rattle.op_model.specs.Run.Schedules.{Lane, is_no_message, first_busy_in, next_busy_in}
 use Rattle.lane_queues.specs.LaneStates.{AreEmpty}
-use Rattle.lane_queues.specs.FirstBusy.{lane_named, first_busy_in, busy_in, AnswersFirst}
+use Rattle.lane_queues.specs.FirstBusy.{lane_named, busy_in, behind, AnswersFirst}
 use Rattle.lane_queues.specs.Queues.{Queues, lane_in, meaning_of}
-use Rattle.lane_queues.proofs.LaneOrder.{first_busy-none, first_busy-some}
+use Rattle.lane_queues.proofs.LaneOrder.{first_busy-none, first_busy-some, marked-none, marked-some}
 use Rattle.lane_queues.proofs.Meaning.{lane_in-outside, inside_or_not}
 
 pub answer_defined : (sizes : Sizes) (lanes : Lanes) (answer : Option (ℕ × ℕ × Class)) → AnswersFirst sizes.nodes (busy_in lanes) answer → option_map lane_named answer ≡ first_busy_in sizes lanes
 answer_defined sizes lanes None quiet = sym (first_busy-none sizes lanes quiet)
 answer_defined sizes lanes (Some lane) is = sym (first_busy-some sizes lanes lane.0 lane.1 lane.2 is)
+
+pub next_defined : (sizes : Sizes) (lanes : Lanes) (here : Lane) (answer : Option (ℕ × ℕ × Class)) → AnswersFirst sizes.nodes (behind here (busy_in lanes)) answer → option_map lane_named answer ≡ next_busy_in sizes lanes here
+next_defined sizes lanes here None quiet = sym (marked-none sizes (behind here (busy_in lanes)) quiet)
+next_defined sizes lanes here (Some lane) is = sym (marked-some sizes (behind here (busy_in lanes)) lane.0 lane.1 lane.2 is)
 
 pub quiet_empty : (messages : List Msg) → not (is_no_message messages) ≡ false → messages ≡ []
 quiet_empty [] quiet = refl

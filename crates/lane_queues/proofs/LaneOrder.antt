@@ -9,8 +9,8 @@ use Rattle.line_map.specs.Sizes.{Sizes}
 use Rattle.op_model.specs.declared.events.Class.{Class}
 use Rattle.op_model.specs.declared.events.Class.TheVariants.{Request, Reply}
 use Rattle.op_model.specs.Shares.{Lanes}
-use Rattle.op_model.specs.Run.Schedules.{Lane, both_lanes, lanes_in_order}
-use Rattle.lane_queues.specs.FirstBusy.{Marks, IsFirst, IsNowhere, busy_in, first_busy_in}
+use Rattle.op_model.specs.Run.Schedules.{Lane, both_lanes, lanes_in_order, first_busy_in}
+use Rattle.lane_queues.specs.FirstBusy.{Marks, IsFirst, IsNowhere, busy_in}
 
 abbrev lane_at : ℕ → ℕ → Class → Lane
 lane_at src dst class = record { src = src; dst = dst; class = class }
@@ -89,6 +89,15 @@ all_first marks nodes a (suc n) src dst class low high is = one_then marks nodes
     go later (inr less) =
         let nothing = one_none marks a 0 nodes (λ b k x y. is.before a b k less (omega (arith, y))) in
         rw nothing (later (omega (arith, less)) (omega (arith, high)) is)
+
+-- a search for marked lanes
+pub marked-none : (sizes : Sizes) (marks : Marks) → IsNowhere sizes.nodes marks → find (test marks) (lanes_in_order sizes) ≡ None
+unfolding lanes_in_order
+marked-none sizes marks quiet = all_none marks sizes.nodes 0 sizes.nodes (λ src dst k low high below. quiet src (omega (arith, high)) dst k below)
+
+pub marked-some : (sizes : Sizes) (marks : Marks) (src dst : ℕ) (class : Class) → IsFirst sizes.nodes marks src dst class → find (test marks) (lanes_in_order sizes) ≡ Some (lane_at src dst class)
+unfolding lanes_in_order
+marked-some sizes marks src dst class is = all_first marks sizes.nodes 0 sizes.nodes src dst class (omega arith) (omega (arith, is.from)) is
 
 pub first_busy-none : (sizes : Sizes) (lanes : Lanes) → IsNowhere sizes.nodes (busy_in lanes) → first_busy_in sizes lanes ≡ None
 unfolding lanes_in_order

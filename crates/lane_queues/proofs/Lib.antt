@@ -1,4 +1,3 @@
-pub mod Departures
 pub mod LaneNumbers
 pub mod CellWords
 pub mod RingCells
@@ -17,3 +16,4 @@ pub mod MaskSteps
 pub mod Masks
 pub mod FirstAnswers
 pub mod Listed
+pub mod NextLanes

@@ -1,5 +1,5 @@
 -- The first marked lane is the first busy one: a lane from or to a node that isn't there holds nothing, and so isn't marked. Also lanes as they are made.
-use Rattle.std.proofs.Common.{◌≡◌, ℕ, ◌*◌, ◌^◌, ◌<◌, ◌≤◌, ◌⊎◌, inl, inr, true, false, not, ap, sym, ◌∙◌, arith, List, [], get_or, Option, Some, None, IfSome, replicate}
+use Rattle.std.proofs.Common.{◌≡◌, ℕ, ◌*◌, ◌^◌, ◌<◌, ◌≤◌, ◌⊎◌, inl, inr, Bool, true, false, ◌&&◌, not, ap, sym, ◌∙◌, arith, List, [], get_or, Option, Some, None, IfSome, replicate}
 use Rattle.std.proofs.lemmas.Bool.{cases_lt}
 use Rattle.std.proofs.lemmas.List.{get_or-replicate, length-replicate}
 use Rattle.std.proofs.Math.ListN.{get_or-eq_default}
@@ -8,9 +8,9 @@ use Rattle.op_model.specs.declared.events.Class.{Class}
 use Rattle.op_model.specs.declared.events.Class.TheVariants.{Request}
 use Rattle.op_model.specs.declared.messages.Msg.{Msg}
 use Rattle.op_model.specs.Events.Step.{departures}
-use Rattle.op_model.specs.Run.Schedules.{is_no_message}
+use Rattle.op_model.specs.Run.Schedules.{Lane, is_no_message, lane_before}
 use Rattle.lane_queues.specs.LaneStates.{no_messages}
-use Rattle.lane_queues.specs.FirstBusy.{busy_in, AnswersFirst, IsBusy}
+use Rattle.lane_queues.specs.FirstBusy.{Marks, behind, busy_in, lane_named, AnswersFirst, IsBusy}
 use Rattle.lane_queues.specs.BusyLanes.{marks_of}
 use Rattle.lane_queues.specs.Queues.{Queues, lane_count, lane_in, meaning_of}
 use Rattle.lane_queues.specs.Counted.{pair_number, AreCounted}
@@ -49,6 +49,38 @@ first_of_marks queues counts masks are (Some lane) is = record {
 
     inside : (lane.0 < queues.sizes.nodes) × (lane.1 < queues.sizes.nodes)
     inside = below_nodes queues lane.0 lane.1 lane.2 busy
+
+-- marks that agree below 64, and with which no lane is marked outside of the machine
+narrowed : (nodes : ℕ) (marks busy : Marks) → nodes ≤ 64 → ((a b : ℕ) (k : Class) → a < 64 → b < 64 → marks a b k ≡ busy a b k) → ((a b : ℕ) (k : Class) → busy a b k ≡ true → (a < nodes) × (b < nodes)) → (answer : Option (ℕ × ℕ × Class)) →
+    AnswersFirst 64 marks answer → AnswersFirst nodes busy answer
+narrowed nodes marks busy few agree inside None quiet = λ src from dst class to.
+    sym (agree src dst class (omega (arith, from, few)) (omega (arith, to, few))) ∙ quiet src (omega (arith, from, few)) dst class (omega (arith, to, few))
+narrowed nodes marks busy few agree inside (Some lane) is = record {
+  from = within.0;
+  first = record {
+    to = within.1;
+    marked = found;
+    before = λ other k less. sym (agree lane.0 other k is.from (omega (arith, less, is.first.to))) ∙ is.first.before other k less;
+    requests = λ e. sym (agree lane.0 lane.1 Request is.from is.first.to) ∙ is.first.requests e;
+  };
+  before = λ other dst k less to. sym (agree other dst k (omega (arith, less, is.from)) (omega (arith, to, few))) ∙ is.before other dst k less (omega (arith, to, few));
+}
+  where
+    found : busy lane.0 lane.1 lane.2 ≡ true
+    found = sym (agree lane.0 lane.1 lane.2 is.from is.first.to) ∙ is.first.marked
+
+    within : (lane.0 < nodes) × (lane.1 < nodes)
+    within = inside lane.0 lane.1 lane.2 found
+
+and-right : (a b : Bool) → (a && b) ≡ true → b ≡ true
+and-right true b e = e
+and-right false b e = absurd (let never : false ≡ true = e in cc)
+
+pub next_of_marks : (queues : Queues) (counts masks : List ℕ) → AreCounted queues counts masks → (here : Lane) (answer : Option (ℕ × ℕ × Class)) → AnswersFirst 64 (behind here (marks_of masks)) answer → AnswersFirst queues.sizes.nodes (behind here (busy_in (lane_in queues))) answer
+next_of_marks queues counts masks are here answer is =
+    narrowed queues.sizes.nodes (behind here (marks_of masks)) (behind here (busy_in (lane_in queues))) are.few
+    (λ a b k from to. ap (λ t. lane_before here (lane_named (a, b, k)) && t) (are.marks a b k from to))
+    (λ a b k found. below_nodes queues a b k (and-right (lane_before here (lane_named (a, b, k))) (busy_in (lane_in queues) a b k) found)) answer is
 
 pub answer_busy : (queues : Queues) (answer : Option (ℕ × ℕ × Class)) → AnswersFirst queues.sizes.nodes (busy_in (lane_in queues)) answer → IfSome answer (IsBusy (meaning_of queues))
 answer_busy queues None quiet = tt

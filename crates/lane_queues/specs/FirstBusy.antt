@@ -1,18 +1,10 @@
 -- The first lane that isn't empty, in lane order: by sender, then by taker, then requests before replies.
-use Rattle.std.specs.Prelude.{◌≡◌, ◌≢◌, ℕ, ◌<◌, Bool, true, false, not, [], find, Option, MatchOption, refl}
-use Rattle.line_map.specs.Sizes.{Sizes}
+use Rattle.std.specs.Prelude.{◌≡◌, ◌≢◌, ℕ, ◌<◌, Bool, true, false, not, ◌&&◌, [], Option, MatchOption}
 use Rattle.op_model.specs.declared.events.Class.{Class}
 use Rattle.op_model.specs.declared.events.Class.TheVariants.{Request, Reply}
-use Rattle.op_model.specs.Shares.{Lanes, State}
-use Rattle.op_model.specs.Run.Schedules.{Lane, lanes_in_order, is_no_message, first_busy}
+use Rattle.op_model.specs.Shares.{Lanes}
+use Rattle.op_model.specs.Run.Schedules.{Lane, is_no_message, lane_before}
 use Rattle.lane_queues.specs.LaneStates.{LaneState}
-
--- the definition of the schedules, which reads nothing of a state but its lanes
-abbrev pub first_busy_in : Sizes → Lanes → Option Lane
-first_busy_in sizes lanes = find (λ lane. not (is_no_message (lanes lane.src lane.dst lane.class))) (lanes_in_order sizes)
-
-pub first_busy-in : (sizes : Sizes) (state : State) → first_busy sizes state ≡ first_busy_in sizes state.lane
-first_busy-in sizes state = refl
 
 -- the lane that a call names
 abbrev pub lane_named : ℕ × ℕ × Class → Lane
@@ -57,3 +49,7 @@ AnswersFirstFrom nodes marks src answer = MatchOption answer (IsNowhereFrom node
 
 abbrev pub AnswersFirst : ℕ → Marks → Option (ℕ × ℕ × Class) → Type 0
 AnswersFirst nodes marks answer = MatchOption answer (IsNowhere nodes marks) (λ lane. IsFirst nodes marks lane.0 lane.1 lane.2)
+
+-- those marks that stand behind a lane
+abbrev pub behind : Lane → Marks → Marks
+behind here marks src dst class = lane_before here (lane_named (src, dst, class)) && marks src dst class

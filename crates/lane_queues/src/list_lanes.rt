@@ -2,13 +2,13 @@
 
 ghost use Rattle.std.specs.Prelude.{◌≡◌, ◌<◌, ◌≤◌, ◌%◌, ◌==◌, if◌then◌else◌, IfOk};
 ghost use Rattle.lane_queues.specs.LaneStates.{AreLanes, capacity_of, no_messages};
-ghost use Rattle.lane_queues.specs.FirstBusy.{AnswersFirst, AnswersFirstFrom, busy_in};
+ghost use Rattle.lane_queues.specs.FirstBusy.{AnswersFirst, AnswersFirstFrom, behind, busy_in};
 ghost use Rattle.lane_queues.specs.Queues.{lane_in, meaning_of, AreQueues};
 
 use crate::numbers::{lane_count, lane_number};
-use crate::queue::Queue;
 use crate::traits::Lanes;
 use line_map::Machine;
+use msg_words::MsgQueue;
 use op_model::{Class, Full, Msg, NoMemory};
 use std::alloc::Global;
 use std::marker::Model;
@@ -19,7 +19,7 @@ pub struct ListLanes {
     cfg: Machine,
     requests: u32,
     replies: u32,
-    queues: Vec<Queue>,
+    queues: Vec<MsgQueue>,
 }
 
 impl Model for ListLanes {
@@ -48,7 +48,7 @@ impl ListLanes {
         };
         for number in 0..count {
             let capacity = if number % 2 == 0 { requests } else { replies };
-            let queue = Queue::new(alloc, capacity)?;
+            let queue = MsgQueue::new(alloc, capacity)?;
             let Ok(()) = queues.push(queue) else {
                 return Err(NoMemory);
             };
@@ -61,7 +61,7 @@ impl ListLanes {
         })
     }
 
-    fn queue(&self, src: u32, dst: u32, class: Class) -> &Queue
+    fn queue(&self, src: u32, dst: u32, class: Class) -> &MsgQueue
         requires from { src < self.now.sizes.nodes }
         requires to { dst < self.now.sizes.nodes }
         ensures messages { result.now.messages ≡ lane_in self.now src dst class }
@@ -99,6 +99,48 @@ impl ListLanes {
         }
         None
     }
+
+    // The first lane behind one, from the same sender.
+    fn next_from(&self, src: u32, dst: u32, class: Class) -> Option<(u32, Class)>
+        requires from { src < self.now.sizes.nodes }
+        requires to { dst < self.now.sizes.nodes }
+        ensures { AnswersFirstFrom self.now.sizes.nodes (behind (record { src = src; dst = dst; class = class }) (busy_in (lane_in self.now))) src result }
+    {
+        let reply = (dst, Class::Reply);
+        if let Class::Request = class
+            && self.queue(src, dst, Class::Reply).len() > 0
+        {
+            return Some(reply);
+        }
+        let nodes = self.cfg.nodes();
+        for taker in dst + 1..nodes {
+            if self.queue(src, taker, Class::Request).len() > 0 {
+                return Some((taker, Class::Request));
+            }
+            if self.queue(src, taker, Class::Reply).len() > 0 {
+                return Some((taker, Class::Reply));
+            }
+        }
+        None
+    }
+
+    // The first lane behind one that isn't empty.
+    fn next(&self, src: u32, dst: u32, class: Class) -> Option<(u32, u32, Class)>
+        requires from { src < self.now.sizes.nodes }
+        requires to { dst < self.now.sizes.nodes }
+        ensures { AnswersFirst self.now.sizes.nodes (behind (record { src = src; dst = dst; class = class }) (busy_in (lane_in self.now))) result }
+    {
+        if let Some((taker, class)) = self.next_from(src, dst, class) {
+            return Some((src, taker, class));
+        }
+        let nodes = self.cfg.nodes();
+        for sender in src + 1..nodes {
+            if let Some((taker, class)) = self.first_from(sender) {
+                return Some((sender, taker, class));
+            }
+        }
+        None
+    }
 }
 
 impl Lanes for ListLanes {
@@ -125,7 +167,7 @@ impl Lanes for ListLanes {
     }
 
     fn evictions(&self, src: u32, dst: u32) -> u32 {
-        self.queue(src, dst, Class::Request).evictions()
+        self.queue(src, dst, Class::Request).departures()
     }
 
     fn at(&self, src: u32, dst: u32, class: Class, i: u32) -> Msg {
@@ -134,5 +176,9 @@ impl Lanes for ListLanes {
 
     fn first_busy(&self) -> Option<(u32, u32, Class)> {
         self.first()
+    }
+
+    fn next_busy(&self, src: u32, dst: u32, class: Class) -> Option<(u32, u32, Class)> {
+        self.next(src, dst, class)
     }
 }

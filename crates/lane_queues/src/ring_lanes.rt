@@ -6,7 +6,7 @@ ghost use Rattle.lane_queues.specs.LaneStates.{no_messages};
 ghost use Rattle.lane_queues.specs.Queues.{meaning_of};
 
 use crate::busy::BusyLanes;
-use crate::numbers::{is_departure, lane_number, pair_number};
+use crate::numbers::{lane_number, pair_number};
 use crate::rings::Rings;
 use crate::traits::Lanes;
 use line_map::Machine;
@@ -39,7 +39,7 @@ fn count_in(counts: &mut [u32], pair: usize, msg: &Msg)
     requires room { slice_index counts.old pair + departures (msg.now ∷ []) < 2 ^ 32 }
     ensures { counts.new ≡ slice_set counts.old pair (slice_index counts.old pair + departures (msg.now ∷ [])) }
 {
-    if is_departure(msg) {
+    if msg.is_departure() {
         counts[pair] += 1;
     }
 }
@@ -50,7 +50,7 @@ fn count_out(counts: &mut [u32], pair: usize, msg: &Msg)
     requires some { departures (msg.now ∷ []) ≤ slice_index counts.old pair }
     ensures { counts.new ≡ slice_set counts.old pair (slice_index counts.old pair - departures (msg.now ∷ [])) }
 {
-    if is_departure(msg) {
+    if msg.is_departure() {
         counts[pair] -= 1;
     }
 }
@@ -132,5 +132,9 @@ impl Lanes for RingLanes {
 
     fn first_busy(&self) -> Option<(u32, u32, Class)> {
         self.busy.first()
+    }
+
+    fn next_busy(&self, src: u32, dst: u32, class: Class) -> Option<(u32, u32, Class)> {
+        self.busy.next(src, dst, class)
     }
 }

@@ -6,13 +6,14 @@ ghost use Rattle.op_model.specs.declared.events.Class.TheVariants.{Request};
 ghost use Rattle.op_model.specs.Messages.{msg_class};
 ghost use Rattle.op_model.specs.MessageWords.{IsMsgOf};
 ghost use Rattle.op_model.specs.Events.Step.{departures};
+ghost use Rattle.op_model.specs.Run.Schedules.{first_busy_in, next_busy_in};
 ghost use Rattle.lane_queues.specs.LaneStates.{LaneState, AreLanes, AreEmpty, FitsLane, capacity_of, popped, pushed};
-ghost use Rattle.lane_queues.specs.FirstBusy.{first_busy_in, lane_named, IsBusy};
+ghost use Rattle.lane_queues.specs.FirstBusy.{lane_named, IsBusy};
 
 use op_model::{Class, Full, Msg};
 
 /// From each node of a machine to each node there are two lanes, of requests and of replies. Each is a queue of messages of its class, up to a capacity. Nodes are below the machine's number of nodes. No call takes memory.
-pub trait Lanes {
+pub trait Lanes: Drop {
     /// The machine, how many messages a lane of each class may hold, and the messages of each lane, from the front.
     ghost meaning: { Self → LaneState };
 
@@ -72,4 +73,10 @@ pub trait Lanes {
         ensures busy { IfSome result (IsBusy (meaning self.now)) }
         ensures none { IsNone result ↔ AreEmpty (meaning self.now) }
         ensures kept { AreLanes (meaning self.now) };
+
+    /// The first lane behind this one that isn't empty, in the order of `first_busy`. None where all behind it are empty.
+    fn next_busy(&self, src: u32, dst: u32, class: Class) -> Option<(u32, u32, Class)>
+        requires from { src < (meaning self.now).sizes.nodes }
+        requires to { dst < (meaning self.now).sizes.nodes }
+        ensures { option_map lane_named result ≡ next_busy_in (meaning self.now).sizes (meaning self.now).lane (record { src = src; dst = dst; class = class }) };
 }

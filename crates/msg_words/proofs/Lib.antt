@@ -2,3 +2,4 @@ pub mod Fields
 pub mod Contents
 pub mod Told
 pub mod Named
+pub mod Departures

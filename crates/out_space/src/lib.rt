@@ -3,7 +3,6 @@
 
 mod bounds;
 mod outbox;
-mod ring;
 #[cfg(test)]
 mod tests;
 

@@ -5,12 +5,12 @@ ghost use Rattle.op_model.specs.declared.events.Class.TheVariants.{Request};
 ghost use Rattle.op_model.specs.Messages.{msg_class};
 ghost use Rattle.op_model.specs.Events.Step.{departures};
 ghost use Rattle.op_model.specs.Run.Bounds.{lane_bound};
-ghost use Rattle.out_space.specs.Rings.{empty_ring};
+ghost use Rattle.msg_words.specs.QueueState.{empty_queue};
 ghost use Rattle.out_space.specs.Boxes.{waiting, with_waiting, empty_box, IsBox};
 
 use crate::bounds::{reply_bound, request_bound};
-use crate::ring::MessageRing;
 use line_map::Machine;
+use msg_words::MsgQueue;
 use op_model::{Class, Full, Msg, NoMemory};
 use std::alloc::Global;
 use std::marker::Model;
@@ -19,13 +19,13 @@ use std::marker::Model;
 #[derive(Drop)]
 pub struct Outbox {
     cfg: Machine,
-    requests: Vec<MessageRing>,
-    replies: Vec<MessageRing>,
+    requests: Vec<MsgQueue>,
+    replies: Vec<MsgQueue>,
 }
 
 impl Model for Outbox {
     ghost use Rattle.op_model.specs.Run.Bounds.{request_bound, reply_bound};
-    ghost use Rattle.out_space.specs.Rings.{AreRings, lists_of};
+    ghost use Rattle.out_space.specs.Queues.{AreQueues, lists_of};
     ghost use Rattle.out_space.specs.Boxes.{BoxState};
 
     ghost Value = { BoxState };
@@ -36,20 +36,20 @@ impl Model for Outbox {
       replies = lists_of b.replies.items;
     } };
 
-    ghost invariant = { λ b. AreRings b.cfg.nodes (request_bound b.cfg) b.requests.items × AreRings b.cfg.nodes (reply_bound b.cfg) b.replies.items };
+    ghost invariant = { λ b. AreQueues b.cfg.nodes (request_bound b.cfg) b.requests.items × AreQueues b.cfg.nodes (reply_bound b.cfg) b.replies.items };
 }
 
-// A ring for each node.
-fn rings(alloc: Global, nodes: u32, capacity: u32) -> Result<Vec<MessageRing>, NoMemory>
-    ensures { IfOk result (λ rings. rings.items ≡ replicate nodes (empty_ring capacity)) }
+// A queue for each node.
+fn queues(alloc: Global, nodes: u32, capacity: u32) -> Result<Vec<MsgQueue>, NoMemory>
+    ensures { IfOk result (λ queues. queues.items ≡ replicate nodes (empty_queue capacity)) }
 {
-    let Ok(mut rings) = Vec::with_capacity(alloc, nodes as usize) else {
+    let Ok(mut queues) = Vec::with_capacity(alloc, nodes as usize) else {
         return Err(NoMemory);
     };
     for _ in 0..nodes {
-        rings.push_reserved(MessageRing::new(alloc, capacity)?);
+        queues.push_reserved(MsgQueue::new(alloc, capacity)?);
     }
-    Ok(rings)
+    Ok(queues)
 }
 
 impl Outbox {
@@ -59,8 +59,8 @@ impl Outbox {
     {
         Ok(Outbox {
             cfg,
-            requests: rings(alloc, cfg.nodes(), request_bound(&cfg))?,
-            replies: rings(alloc, cfg.nodes(), reply_bound(&cfg))?,
+            requests: queues(alloc, cfg.nodes(), request_bound(&cfg))?,
+            replies: queues(alloc, cfg.nodes(), reply_bound(&cfg))?,
         })
     }
 
