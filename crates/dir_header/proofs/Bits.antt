@@ -1,12 +1,15 @@
 -- A word's set: which bits it has are the numbers that are listed, so that a bit set, cleared or found is a number put in, taken out or found.
-use Rattle.std.proofs.Common.{◌≡◌, ◌≢◌, ℕ, ◌+◌, ◌<◌, ◌≤◌, ◌^◌, ◌∷◌, Bool, true, false, ◌&&◌, ◌==◌, refl, sym, ap, ◌∙◌, arith, w64, drop, length, length-drop, get_or}
+use Rattle.std.proofs.Common.{◌≡◌, ◌≢◌, ℕ, zero, suc, ◌+◌, ◌/◌, ◌%◌, cond, [], add-one, ◌<◌, ◌≤◌, ◌^◌, ◌∷◌, Bool, true, false, ◌&&◌, ◌==◌, refl, sym, ap, ◌∙◌, arith, w64, drop, length, length-drop, get_or}
 use Rattle.std.specs.Prelude.{nat_lt}
 use Rattle.std.specs.Int.{bit_at, trailing_zeros}
+use Rattle.std.specs.Int.Count.{ones}
+use Rattle.std.proofs.Math.Nat.{mod-eq_of_lt, mod-lt, mod-one}
+use Rattle.std.proofs.lemmas.Nat.{mod-pow-add, ones_cat, ones_le_self, pow_pos, zero_from_ones}
 use Rattle.std.proofs.lemmas.Nat.Bits.{bit_at-zero, bit_at-trailing_zeros}
 use Rattle.std.proofs.lemmas.Bool.Decides.{nat_tests}
-use Rattle.op_model.specs.Nodes.{none, listed, enlist, unlist, listed-enlist, listed-unlist, same_nodes, count, in_order, count-in_order}
-use Rattle.dir_header.specs.WordSets.{has_bit, members}
-use Rattle.dir_header.proofs.Numbers.{listed-among, none_listed, in_order-none, in_order-least, rest-at}
+use Rattle.op_model.specs.Nodes.{count-none, none, listed, enlist, unlist, listed-enlist, listed-unlist, same_nodes, count, in_order, count-in_order}
+use Rattle.dir_header.specs.WordSets.{among, has_bit, members}
+use Rattle.dir_header.proofs.Numbers.{count-among_more, listed-among, none_listed, in_order-none, in_order-least, rest-at}
 
 pub listed-members : (word q : ℕ) → listed (members word) q ≡ (nat_lt q 64 && has_bit word q)
 unfolding members
@@ -99,3 +102,49 @@ module _ (word rest c : ℕ) (within : c < count (members word)) (left : drop c 
 
 pub members-zero : members 0 ≡ none
 members-zero = none_listed (members 0) (λ q. let off = bit_at-zero q in let l = listed-members 0 q in grind (arith, nat_tests))
+
+-- the nodes that are left: none in an empty word, else its least one and those of the rest
+pub none-left : (word : ℕ) → word ≡ 0 → in_order (members word) ≡ []
+none-left word e = ap (λ n. in_order (members n)) e ∙ ap in_order members-zero ∙ in_order-none
+
+pub least-left : (word k rest : ℕ) → listed (members word) k ≡ true → ((q : ℕ) → listed (members word) q ≡ true → k ≤ q) → members rest ≡ unlist (members word) k → in_order (members word) ≡ k ∷ in_order (members rest)
+least-left word k rest there least gone = in_order-least (members word) k there least ∙ ap (λ s. k ∷ in_order s) (sym gone)
+
+-- as many bits are set as there are members
+ones-zero : ones 0 ≡ 0
+ones-zero = let l = ones_le_self 0 in omega (arith, l)
+
+ones-one : ones 1 ≡ 1
+ones-one = by (ones 1) (ones_le_self 1) (zero_from_ones 1)
+  where
+    by : (k : ℕ) → k ≤ 1 → (k ≡ 0 → suc zero ≡ 0) → k ≡ 1
+    by zero most never = absurd (let e = never refl in omega (arith, e))
+    by (suc zero) most never = refl
+    by (suc (suc k)) most never = absurd (omega arith)
+
+one-bit : (word n : ℕ) → ones (word / 2 ^ n % 2 ^ 1) ≡ cond (has_bit word n) 1 0
+one-bit word n = by (bit_at word n) (mod-lt (word / 2 ^ n) (omega arith))
+  where
+    by : (b : ℕ) → b < 2 → ones b ≡ cond (b == 1) 1 0
+    by zero below = ones-zero
+    by (suc zero) below = ones-one
+    by (suc (suc b)) below = absurd (omega arith)
+
+ones-below : (word n : ℕ) → ones (word % 2 ^ n) ≡ count (among (has_bit word) n)
+unfolding among
+ones-below word zero = ap ones (mod-one word) ∙ ones-zero ∙ sym count-none
+ones-below word (suc n) =
+    ap (λ k. ones (word % 2 ^ k)) (let e : suc n ≡ 1 + n = omega arith in e)
+    ∙ ap ones (mod-pow-add word 1 n)
+    ∙ ones_cat n (word / 2 ^ n % 2 ^ 1) (word % 2 ^ n) (mod-lt word (pow_pos n))
+    ∙ (λ i. one-bit word n i + ones-below word n i)
+    ∙ plus (has_bit word n) (count (among (has_bit word) n))
+    ∙ sym (count-among_more (has_bit word) n) ∙ ap (λ k. count (among (has_bit word) k)) (add-one n)
+  where
+    plus : (b : Bool) (k : ℕ) → cond b 1 0 + k ≡ cond b (k + 1) k
+    plus true k = omega arith
+    plus false k = omega arith
+
+pub ones-count : (word : ℕ) → word < 2 ^ 64 → ones word ≡ count (members word)
+unfolding members
+ones-count word fits = ap ones (sym (mod-eq_of_lt fits)) ∙ ones-below word 64

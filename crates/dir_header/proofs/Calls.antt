@@ -10,9 +10,10 @@ use Rattle.op_model.specs.Nodes.{Nodes, none, listed, count, same_nodes}
 use Rattle.op_model.specs.Operations.{Words}
 use Rattle.op_model.specs.declared.state.Wait.{Wait}
 use Rattle.op_model.specs.Lines.{Header, is_idle}
+use Rattle.op_model.specs.Tables.Remote.{is_invalidate}
 use Rattle.dir_header.specs.Sharers.{Directory, IsDirectory, list_at, held_by, with_list}
 use Rattle.dir_header.specs.Budgets.{BudgetView}
-use Rattle.dir_header.specs.HomeSides.{HomeView, Fields, header_at, awaits_acks, with_header}
+use Rattle.dir_header.specs.HomeSides.{HomeView, Fields, header_at, with_header}
 use Rattle.dir_header.specs.Standings.{HoldersView, standing_of, standing_in, stands_victim, counted, moved, put_in}
 use Rattle.dir_header.specs.declared.header.Standing.{Standing}
 use Rattle.dir_header.specs.declared.header.Standing.TheVariants.{Linkless, Victim, Pending}
@@ -95,8 +96,8 @@ module _ {D : Type 0} (dir : Directory) (sizes : Sizes) (node : ℕ) (headers : 
   pub below-old : (q : ℕ) → listed old.list q ≡ true → q < sizes.nodes
   below-old q there = is.home.below line q own (ap (λ h. listed h.list q) here-is ∙ there)
 
-  pub acks-old : awaits_acks old.wait ≡ true → old.acks ≡ count old.list
-  acks-old waits = sym (ap (λ h. h.acks) here-is) ∙ is.home.acks line own (ap (λ h. awaits_acks h.wait) here-is ∙ waits) ∙ ap (λ h. count h.list) here-is
+  pub acks-old : is_invalidate old.wait ≡ true → old.acks ≡ count old.list
+  acks-old waits = sym (ap (λ h. h.acks) here-is) ∙ is.home.acks line own (ap (λ h. is_invalidate h.wait) here-is ∙ waits) ∙ ap (λ h. count h.list) here-is
 
   pub room-old : budget.used ≤ budget.limit
   room-old = let u = is.counted.used in let l = is.counted.limit in let f = is.home.few in omega arith
@@ -152,7 +153,7 @@ module _ {D : Type 0} (dir : Directory) (sizes : Sizes) (node : ℕ) (headers : 
     pub relist-view : home_view dir' sizes node headers memory d' ≡ record { sizes = sizes; node = node; charge = dir.charge; dir = d'; headers = fin.insert view.headers line relisted-header }
     relist-view = view-is dir sizes node headers memory d budget holders is line own dir' headers memory d' relisted-header dir-is relist-here relist-others
 
-    pub relist-kept : (holders' : HoldersView) → IsDirectory dir' → ((q : ℕ) → listed list q ≡ true → q < sizes.nodes) → awaits_acks old.wait ≡ false →
+    pub relist-kept : (holders' : HoldersView) → IsDirectory dir' → ((q : ℕ) → listed list q ≡ true → q < sizes.nodes) → is_invalidate old.wait ≡ false →
         holders' ≡ moved holders m stood (standing_of old.wait (held_by dir.charge list)) → IsHomeSide dir' sizes node headers memory d' budget holders'
     relist-kept holders' kept below calm moves =
         side-kept dir sizes node headers memory d budget holders is line own dir' headers memory d' relisted-header dir-is relist-here relist-others
@@ -185,7 +186,7 @@ module _ {D : Type 0} (dir : Directory) (sizes : Sizes) (node : ℕ) (headers : 
       refield-view = view-is dir sizes node headers memory d budget holders is line own dir' (set headers p h) memory d' refielded dir-is refield-here refield-others
 
       pub refield-kept : (budget' : BudgetView) (holders' : HoldersView) → IsDirectory dir' → ((q : ℕ) → listed list q ≡ true → q < sizes.nodes) →
-          (awaits_acks h.wait ≡ true → h.acks ≡ count list) → budget'.used + pend old ≡ budget.used + pend refielded → budget'.limit ≡ budget.limit → budget'.used ≤ budget'.limit →
+          (is_invalidate h.wait ≡ true → h.acks ≡ count list) → budget'.used + pend old ≡ budget.used + pend refielded → budget'.limit ≡ budget.limit → budget'.used ≤ budget'.limit →
           holders' ≡ moved holders m stood (standing_of h.wait (held_by dir.charge list)) → IsHomeSide dir' sizes node (set headers p h) memory d' budget' holders'
       refield-kept budget' holders' kept below acks used limit room moves =
           side-kept dir sizes node headers memory d budget holders is line own dir' (set headers p h) memory d' refielded dir-is refield-here refield-others
@@ -218,7 +219,7 @@ module _ {D : Type 0} (dir : Directory) (sizes : Sizes) (node : ℕ) (headers : 
   pub flags-kept : (h : Fields) → h.wait ≡ old.wait → h.acks ≡ old.acks → IsHomeSide dir sizes node (set headers p h) memory d budget holders
   flags-kept h wait acks =
       refield-kept dir d old.list same_list-at h budget holders is.home.dir_kept below-old
-      (λ waits. acks ∙ acks-old (ap awaits_acks (sym wait) ∙ waits)) (ap (λ w. budget.used + pend (record old { wait = w })) (sym wait)) refl room-old
+      (λ waits. acks ∙ acks-old (ap is_invalidate (sym wait) ∙ waits)) (ap (λ w. budget.used + pend (record old { wait = w })) (sym wait)) refl room-old
       (same_standing ∙ ap (λ w. moved holders m stood (standing_of w (held_by dir.charge old.list))) (sym wait))
 
   pub flags-view : (h : Fields) → home_view dir sizes node (set headers p h) memory d ≡ with_header view line (joined h old.list old.memory)

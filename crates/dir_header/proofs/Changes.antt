@@ -9,10 +9,11 @@ use Rattle.line_map.specs.Sizes.{Sizes, home_of}
 use Rattle.op_model.specs.Nodes.{Nodes, listed, count, listed-enlist, listed-unlist}
 use Rattle.op_model.specs.Operations.{Words}
 use Rattle.op_model.specs.Lines.{Header, is_pending}
-use Rattle.op_model.specs.Shares.{first_header, header_of, links_in, held_links}
+use Rattle.op_model.specs.Shares.{first_header, header_of, links_in, held_links, header_in, links_among}
+use Rattle.op_model.specs.Tables.Remote.{is_invalidate}
 use Rattle.dir_header.specs.Sharers.{Directory, Linked, IsDirectory, list_at, held_by, held_in, with_list}
 use Rattle.dir_header.specs.Budgets.{BudgetView}
-use Rattle.dir_header.specs.HomeSides.{HomeView, Fields, bare, header_at, pending_in, awaits_acks, IsHome}
+use Rattle.dir_header.specs.HomeSides.{HomeView, Fields, header_at, pending_in, IsHome}
 use Rattle.dir_header.specs.Standings.{HoldersView, standing_in, stands_victim, put_in, counted, moved}
 use Rattle.dir_header.specs.declared.header.Standing.{Standing}
 use Rattle.dir_header.specs.declared.header.Standing.TheVariants.{Linkless, Victim, Pending}
@@ -55,7 +56,7 @@ module _ {D : Type 0} (dir : Directory) (sizes : Sizes) (node : ℕ) (headers : 
   has = get-within (λ l. line_header headers memory dir.lists (l % sizes.lines)) (node * sizes.lines) sizes.lines line (line_from sizes node is.some_lines line own) (line_to sizes node is.some_lines line own)
 
   pub header-is : header_at view line ≡ old
-  unfolding header_of
+  unfolding header_in
   header-is = ap (λ o. unwrap_or o (first_header sizes)) has
 
   -- two lines of this home have two places
@@ -84,11 +85,11 @@ module _ {D : Type 0} (dir : Directory) (sizes : Sizes) (node : ℕ) (headers : 
     view-is = let charge = ap (λ x. x.charge) dir-is in λ i. record { sizes = sizes; node = node; charge = charge i; dir = d'; headers = headers-are i }
 
     own-header : header_at changed line ≡ header'
-    unfolding header_of
+    unfolding header_in
     own-header = ap (λ o. unwrap_or o (first_header sizes)) (get-put view.headers line header' line ∙ ap (λ b. cond b (Some header') (fin.get view.headers line)) (let e : (line == line) ≡ true = grind (arith, nat_tests) in e))
 
     other-header : (q : ℕ) → (q == line) ≡ false → header_at changed q ≡ header_at view q
-    unfolding header_of
+    unfolding header_in
     other-header q e = ap (λ o. unwrap_or o (first_header sizes)) (get-put view.headers line header' q ∙ ap (λ b. cond b (Some header') (fin.get view.headers q)) e)
 
     -- what is so of the new header, and of each old one, is so of each
@@ -114,7 +115,7 @@ module _ {D : Type 0} (dir : Directory) (sizes : Sizes) (node : ℕ) (headers : 
     lists_other : (k : ℕ) → (k == m) ≡ false → list_at dir' k ≡ list_at dir k
     lists_other k e = ap (λ x. list_at x k) dir-is ∙ list-set_other dir m k header'.list (let other : k ≢ m = grind (arith, nat_tests) in other)
 
-    held-is : dir.charge ≡ Linked → held_links (bare changed.headers) ≡ held_in dir'
+    held-is : dir.charge ≡ Linked → links_among changed.headers ≡ held_in dir'
     held-is linked =
         let sum = sum-insert links_in line header' old view.headers has in
         let all = held-set dir m header'.list m_listed in
@@ -125,7 +126,7 @@ module _ {D : Type 0} (dir : Directory) (sizes : Sizes) (node : ℕ) (headers : 
         omega arith
 
     module _ (budget' : BudgetView) (holders' : HoldersView) (kept : IsDirectory dir') (below : (q : ℕ) → listed header'.list q ≡ true → q < sizes.nodes)
-        (acks : awaits_acks header'.wait ≡ true → header'.acks ≡ count header'.list) (width : length header'.memory ≡ sizes.words)
+        (acks : is_invalidate header'.wait ≡ true → header'.acks ≡ count header'.list) (width : length header'.memory ≡ sizes.words)
         (used : budget'.used + pend old ≡ budget.used + pend header') (limit : budget'.limit ≡ budget.limit) (room : budget'.used ≤ budget'.limit)
         (moves : holders' ≡ moved holders m (standing_in dir.charge old) (standing_in dir.charge header')) where
       used_is : budget'.used ≡ pending_in changed
@@ -143,7 +144,7 @@ module _ {D : Type 0} (dir : Directory) (sizes : Sizes) (node : ℕ) (headers : 
         lists = each (λ q h. home_of sizes q ≡ node → h.list ≡ list_at dir' (q % sizes.lines)) (λ o. sym list_there)
             (λ q e o. is.home.lists q o ∙ sym (lists_other (q % sizes.lines) (apart q o e)));
         below = λ q n. each (λ q h. home_of sizes q ≡ node → listed h.list n ≡ true → n < sizes.nodes) (λ o. below n) (λ q e. is.home.below q n) q;
-        acks = each (λ q h. home_of sizes q ≡ node → awaits_acks h.wait ≡ true → h.acks ≡ count h.list) (λ o. acks) (λ q e. is.home.acks q);
+        acks = each (λ q h. home_of sizes q ≡ node → is_invalidate h.wait ≡ true → h.acks ≡ count h.list) (λ o. acks) (λ q e. is.home.acks q);
         width = each (λ q h. home_of sizes q ≡ node → length h.memory ≡ sizes.words) (λ o. width) (λ q e. is.home.width q);
         few = let u = used_is in let l = is.counted.limit in omega arith;
         held = held-is;

@@ -2,9 +2,9 @@
 -- takes one link at most, a list that loses a node or becomes that of one node takes none.
 use Rattle.std.proofs.Common.{◌≡◌, ◌≢◌, ℕ, zero, suc, ◌+◌, ◌-◌, ◌<◌, ◌≤◌, Bool, true, false, cond, not, ◌&&◌, ◌==◌, IsTrue, length, Option, Some, None, IfSome, refl, sym, ap, ◌∙◌, arith}
 use Rattle.std.proofs.lemmas.Bool.Decides.{nat_tests}
-use Rattle.std.proofs.lemmas.List.{get_or-set_same, get_or-set_other}
+use Rattle.std.proofs.lemmas.List.{get_or-set_same, get_or-set_other, set-get_or}
 use Rattle.std.proofs.lemmas.List.Sums.{sum_by-set}
-use Rattle.op_model.specs.Nodes.{Nodes, listed, enlist, unlist, none, only, count, listed-none, listed-enlist, listed-unlist, count-none, count-enlist, count-unlist}
+use Rattle.op_model.specs.Nodes.{Nodes, listed, enlist, unlist, none, only, count, listed-none, listed-enlist, listed-unlist, count-none, count-enlist, count-unlist, same_nodes}
 use Rattle.op_model.specs.Lines.{nobody_listed}
 use Rattle.dir_header.specs.Sharers.{Directory, Charge, Linked, Unlinked, is_linked, IsDirectory, list_at, held_by, held_in, free_in, needs_link, with_list, only_this}
 
@@ -99,3 +99,14 @@ module _ (dir : Directory) (m : ℕ) (is : IsDirectory dir) (within : m < length
     where
       left : (held links : ℕ) → (links - held ≡ 0 → ⊥) → held ≤ links → held < links
       left held links some fits = omega (arith, some)
+
+-- a node that isn't listed is taken off without a change
+pub unlist-none : (list : Nodes) (node : ℕ) → listed list node ≡ false → unlist list node ≡ list
+unlist-none list node off = same_nodes (unlist list node) list (λ q. by q (q == node) refl)
+  where
+    by : (q : ℕ) (b : Bool) → (q == node) ≡ b → listed (unlist list node) q ≡ listed list q
+    by q true e = let l = listed-unlist list node q in let same : q ≡ node = grind (arith, nat_tests) in let o : listed list q ≡ false = ap (listed list) same ∙ off in grind (arith, nat_tests)
+    by q false e = let l = listed-unlist list node q in grind (arith, nat_tests)
+
+pub unlist-same : (dir : Directory) (m node : ℕ) → listed (list_at dir m) node ≡ false → dir ≡ with_list dir m (unlist (list_at dir m) node)
+unlist-same dir m node off = ap (λ ls. record dir { lists = ls }) (sym (set-get_or dir.lists m none) ∙ ap (λ l. (with_list dir m l).lists) (sym (unlist-none (list_at dir m) node off)))

@@ -12,3 +12,4 @@ pub mod Waits
 pub mod Victims
 pub mod Start
 pub mod Shares
+pub mod Unlisted

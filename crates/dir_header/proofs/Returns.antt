@@ -8,11 +8,12 @@ use Rattle.line_map.specs.Sizes.{Sizes, home_of}
 use Rattle.op_model.specs.Nodes.{Nodes, listed, count, listed-none, none_of_count}
 use Rattle.op_model.specs.Operations.{Words}
 use Rattle.op_model.specs.Lines.{Header, nobody_listed}
-use Rattle.op_model.specs.Shares.{held_links}
+use Rattle.op_model.specs.Shares.{held_links, links_among}
 use Rattle.op_model.specs.Tables.Home.{lacks_link}
+use Rattle.op_model.specs.Tables.Remote.{is_invalidate}
 use Rattle.dir_header.specs.Sharers.{Directory, Charge, Linked, Unlinked, is_linked, list_at, held_in, free_in, needs_link, with_list}
 use Rattle.dir_header.specs.Budgets.{BudgetView}
-use Rattle.dir_header.specs.HomeSides.{HomeView, Fields, bare, header_at, room_in, awaits_acks, relisted}
+use Rattle.dir_header.specs.HomeSides.{HomeView, Fields, header_at, room_in, relisted}
 use Rattle.dir_header.specs.Standings.{HoldersView}
 use Rattle.dir_header.specs.HomeParts.{blank, joined, line_header, home_view, IsHomeSide}
 use Rattle.dir_header.proofs.Calls.{here-is, m_in, acks-old, relist-view}
@@ -65,8 +66,8 @@ module _ {D : Type 0} (dir : Directory) (sizes : Sizes) (node : ℕ) (headers : 
   some-bound None below = tt
   some-bound (Some n) below = bound-at n below
 
-  pub calm-old : awaits_acks (header_at view line).wait ≡ false → awaits_acks old.wait ≡ false
-  calm-old calm = ap (λ h. awaits_acks h.wait) (sym old-is) ∙ calm
+  pub calm-old : is_invalidate (header_at view line).wait ≡ false → is_invalidate old.wait ≡ false
+  calm-old calm = ap (λ h. is_invalidate h.wait) (sym old-is) ∙ calm
 
   pub list-old : (header_at view line).list ≡ list_at dir p
   list-old = ap (λ h. h.list) old-is ∙ ap (list_at dir) (sym p-is)
@@ -88,8 +89,8 @@ module _ {D : Type 0} (dir : Directory) (sizes : Sizes) (node : ℕ) (headers : 
   lacks-is : (n : ℕ) → (needs_link dir p n && (free_in dir == 0)) ≡ lacks_link (room_in view) n (header_at view line)
   lacks-is n =
       ap (λ k. needs_link dir k n && (free_in dir == 0)) p-is
-      ∙ grouped (is_linked dir.charge) (not (listed old.list n)) (not (nobody_listed old.list)) (free_in dir == 0) (not (nat_lt (held_links (bare view.headers)) sizes.links))
-      (λ linked. none_free (held_in dir) dir.links (held_links (bare view.headers)) sizes.links (is.home.held (linked-is dir.charge linked)) is.home.links)
+      ∙ grouped (is_linked dir.charge) (not (listed old.list n)) (not (nobody_listed old.list)) (free_in dir == 0) (not (nat_lt (links_among view.headers) sizes.links))
+      (λ linked. none_free (held_in dir) dir.links (links_among view.headers) sizes.links (is.home.held (linked-is dir.charge linked)) is.home.links)
       ∙ ap (lacks_link (room_in view) n) (sym old-is)
 
   -- a refusal, in the words of the directory and in those of the tables
@@ -114,9 +115,9 @@ module _ {D : Type 0} (dir : Directory) (sizes : Sizes) (node : ℕ) (headers : 
       zero-of : (k : ℕ) → (k == 0) ≡ true → k ≡ 0
       zero-of k e = grind (arith, nat_tests)
 
-  pub acks-some : (n : ℕ) → (awaits_acks old.wait && listed (list_at dir p) n) ≡ true → 0 < old.acks
+  pub acks-some : (n : ℕ) → (is_invalidate old.wait && listed (list_at dir p) n) ≡ true → 0 < old.acks
   acks-some n both =
-      let waits : awaits_acks old.wait ≡ true = grind (arith, nat_tests) in
+      let waits : is_invalidate old.wait ≡ true = grind (arith, nat_tests) in
       let there : listed (list_at dir p) n ≡ true = grind (arith, nat_tests) in
       let some = some-listed old.list n (ap (λ k. listed (list_at dir k) n) (sym p-is) ∙ there) in
       let due = acks-old dir sizes node headers memory d budget holders is line own p p-is waits in

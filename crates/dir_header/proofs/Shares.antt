@@ -5,9 +5,9 @@ use Rattle.std.proofs.lemmas.Bool.Decides.{nat_tests}
 use Rattle.std.specs.Cmp.{nat_cmp_total}
 use Rattle.std.specs.FinMap as fin
 use Rattle.op_model.specs.Lines.{Header}
-use Rattle.op_model.specs.Shares.{Share, first_header, header_of, room_of}
+use Rattle.op_model.specs.Shares.{Share, first_header, header_of, room_of, header_in, Headers}
 use Rattle.op_model.specs.Events.Node.{fits_victim}
-use Rattle.dir_header.specs.HomeSides.{HomeView, Headers, header_at, room_in, is_victim, with_header}
+use Rattle.dir_header.specs.HomeSides.{HomeView, header_at, room_in, is_victim, with_header}
 use Rattle.dir_header.proofs.Tables.{get-put}
 
 -- a header that is put where one was put before
@@ -20,24 +20,24 @@ put-put headers line first second = fin.same_map nat_cmp_total fin.nat_cmp-IsAnt
 
 module _ {D : Type 0} (home : HomeView D) where
   pub header-put : (line : ℕ) (header : Header) → header_at (with_header home line header) line ≡ header
-  unfolding header_of
+  unfolding header_in
   header-put line header =
       ap (λ o. unwrap_or o (first_header home.sizes)) (get-put home.headers line header line ∙ ap (λ b. cond b (Some header) (fin.get home.headers line)) (let own : (line == line) ≡ true = grind (arith, nat_tests) in own))
 
   pub header-put_other : (line other : ℕ) (header : Header) → other ≢ line → header_at (with_header home line header) other ≡ header_at home other
-  unfolding header_of
+  unfolding header_in
   header-put_other line other header apart =
       ap (λ o. unwrap_or o (first_header home.sizes)) (get-put home.headers line header other ∙ ap (λ b. cond b (Some header) (fin.get home.headers other)) (let off : (other == line) ≡ false = grind (arith, nat_tests) in off))
 
   -- a share with these headers
   module _ (share : Share) (is : share.headers ≡ home.headers) where
     pub header-share : (line : ℕ) → header_of home.sizes share line ≡ header_at home line
-    unfolding header_of
+    unfolding header_in
     header-share line = ap (λ hs. unwrap_or (fin.get hs line) (first_header home.sizes)) is
 
     pub room-share : room_of home.charge home.sizes share ≡ room_in home
     room-share = ap (λ hs. room_of home.charge home.sizes (record share { headers = hs })) is
 
     pub victim-share : (line : ℕ) → fits_victim home.charge home.sizes home.node share line ≡ is_victim home line
-    unfolding header_of
+    unfolding header_in
     victim-share line = ap (λ hs. fits_victim home.charge home.sizes home.node (record share { headers = hs }) line) is

@@ -10,7 +10,7 @@ use Rattle.line_map.specs.Sizes.{Sizes, home_of}
 use Rattle.op_model.specs.Nodes.{none, listed, count, listed-none, count-none}
 use Rattle.op_model.specs.Operations.{Words}
 use Rattle.op_model.specs.Lines.{Header, is_pending}
-use Rattle.op_model.specs.Shares.{first_header, first_headers, header_of, links_in}
+use Rattle.op_model.specs.Shares.{first_header, first_headers, header_of, links_in, header_in}
 use Rattle.op_model.specs.Run.Runs.{start_share}
 use Rattle.dir_header.specs.Sharers.{Directory, Charge, Linked, held_by, held_in}
 use Rattle.dir_header.specs.Budgets.{BudgetView}
@@ -53,7 +53,7 @@ module _ {D : Type 0} (sizes : Sizes) (node : ℕ) (dir : Directory) (d : D) (he
   start-returns = λ i. record { sizes = sizes; node = node; charge = dir.charge; dir = d; headers = headers-first i }
 
   header-first : (line : ℕ) → home_of sizes line ≡ node → header_at view line ≡ first_header sizes
-  unfolding header_of
+  unfolding header_in
   header-first line own = ap (λ o. unwrap_or o (first_header sizes)) (get-within f (node * sizes.lines) sizes.lines line (line_from sizes node some line own) (line_to sizes node some line own)) ∙ first-at (line % sizes.lines) (omega arith)
 
   nothing : (g : Header → ℕ) → g (first_header sizes) ≡ 0 → sum_by (λ e. g e.1) (fin.entries view.headers) ≡ 0

@@ -11,7 +11,7 @@ use Rattle.std.specs.Cmp.{nat_cmp_total, unsigned_tied}
 use Rattle.std.specs.FinMap as fin
 use Rattle.line_map.specs.Sizes.{Sizes, home_of}
 use Rattle.op_model.specs.Lines.{Header}
-use Rattle.op_model.specs.Shares.{first_header, first_headers}
+use Rattle.op_model.specs.Shares.{Headers, first_header, first_headers}
 use Rattle.dir_header.specs.HomeParts.{table}
 
 pub get-put : {X : Type 0} (m : fin.FinMap nat_cmp X) (k : ℕ) (v : X) (q : ℕ) → fin.get (fin.insert m k v) q ≡ cond (q == k) (Some v) (fin.get m q)
@@ -95,3 +95,11 @@ module _ (sizes : Sizes) (node : ℕ) (some : 0 < sizes.lines) where
 
   pub place_of_line : (m : ℕ) → m < sizes.lines → (node * sizes.lines + m) % sizes.lines ≡ m
   place_of_line m below = mod-mul-add node sizes.lines m below
+
+-- a header that is put where it stands already
+pub put-same : (headers : Headers) (line : ℕ) (header : Header) → fin.get headers line ≡ Some header → fin.insert headers line header ≡ headers
+put-same headers line header there = fin.same_map nat_cmp_total fin.nat_cmp-IsAntisymmetric _ _ (λ q. get-put headers line header q ∙ at (q == line) q refl)
+  where
+    at : (b : Bool) (q : ℕ) → (q == line) ≡ b → cond b (Some header) (fin.get headers q) ≡ fin.get headers q
+    at true q e = let same : line ≡ q = grind (arith, nat_tests) in sym there ∙ ap (fin.get headers) same
+    at false q e = refl

@@ -12,9 +12,10 @@ use Rattle.line_map.specs.Sizes.{Sizes, home_of}
 use Rattle.op_model.specs.Nodes.{listed, count, in_order}
 use Rattle.op_model.specs.Operations.{Words}
 use Rattle.op_model.specs.Lines.{Header, is_pending, is_idle}
+use Rattle.op_model.specs.Run.Seeded.{lines_of}
 use Rattle.dir_header.specs.Sharers.{Directory, Charge, Linked, Unlinked, is_linked, held_by}
 use Rattle.dir_header.specs.Budgets.{BudgetView}
-use Rattle.dir_header.specs.HomeSides.{HomeView, Fields, header_at, is_victim, lines_in, room_in}
+use Rattle.dir_header.specs.HomeSides.{HomeView, Fields, header_at, is_victim, room_in}
 use Rattle.dir_header.specs.Standings.{HoldersView, standing_in, stands_victim, stands_pending}
 use Rattle.dir_header.specs.declared.header.Standing.TheVariants.{Linkless, Victim, Pending}
 use Rattle.dir_header.specs.HomeParts.{home_view, IsHomeSide}
@@ -114,17 +115,17 @@ module _ {D : Type 0} (dir : Directory) (sizes : Sizes) (node : ℕ) (headers : 
       own_test : home_of sizes (first + m) ≡ node → (home_of sizes (first + m) == node) ≡ true
       own_test own = grind (arith, nat_tests)
 
-  victims-are : filter (is_victim view) (lines_in view) ≡ map (λ m. first + m) (in_order holders.victims)
+  victims-are : filter (is_victim view) (lines_of view.sizes view.node) ≡ map (λ m. first + m) (in_order holders.victims)
   victims-are =
       ap (λ k. filter (is_victim view) (range_with_len k sizes.lines)) (let e : first ≡ first + 0 = omega arith in e)
       ∙ shifted (is_victim view) (listed holders.victims) first 0 sizes.lines (λ m from to. test-at m (omega arith))
       ∙ ap (map (λ m. first + m)) (sym (in_order-range holders.victims 0 sizes.lines (λ q there. omega arith) (λ q there. let b = is.counted.few q there in omega arith)))
 
-  pub victim-returns : (i : ℕ) (r : Option ℕ) → r ≡ slice_get (in_order holders.victims) i → option_map (λ m. first + m) r ≡ slice_get (filter (is_victim view) (lines_in view)) i
+  pub victim-returns : (i : ℕ) (r : Option ℕ) → r ≡ slice_get (in_order holders.victims) i → option_map (λ m. first + m) r ≡ slice_get (filter (is_victim view) (lines_of view.sizes view.node)) i
   victim-returns i r e = ap (option_map (λ m. first + m)) e ∙ sym (ap (λ xs. slice_get xs i) victims-are ∙ slice_get-map (λ m. first + m) (in_order holders.victims) i)
 
-  pub least-returns : (r : Option ℕ) → r ≡ slice_get (in_order holders.victims) 0 → option_map (λ m. first + m) r ≡ find (is_victim view) (lines_in view)
-  least-returns r e = victim-returns 0 r e ∙ sym (find-first (is_victim view) (lines_in view))
+  pub least-returns : (r : Option ℕ) → r ≡ slice_get (in_order holders.victims) 0 → option_map (λ m. first + m) r ≡ find (is_victim view) (lines_of view.sizes view.node)
+  least-returns r e = victim-returns 0 r e ∙ sym (find-first (is_victim view) (lines_of view.sizes view.node))
 
   pub first_fits : first ≤ 64 * 4096
   first_fits =

@@ -10,9 +10,10 @@ use Rattle.op_model.specs.declared.state.Wait.TheVariants.{Idle}
 use Rattle.op_model.specs.Nodes.{listed, unlist, count, count-unlist}
 use Rattle.op_model.specs.Operations.{Words}
 use Rattle.op_model.specs.Lines.{Header, is_pending, is_idle}
+use Rattle.op_model.specs.Tables.Remote.{is_invalidate}
 use Rattle.dir_header.specs.Sharers.{Directory, IsDirectory, list_at, held_by, with_list}
 use Rattle.dir_header.specs.Budgets.{BudgetView}
-use Rattle.dir_header.specs.HomeSides.{HomeView, Fields, header_at, room_in, awaits_acks, with_header, unlisted, made_pending}
+use Rattle.dir_header.specs.HomeSides.{HomeView, Fields, header_at, room_in, with_header, unlisted, made_pending}
 use Rattle.dir_header.specs.Standings.{HoldersView, standing_of, standing_in, moved}
 use Rattle.dir_header.specs.declared.header.Standing.{Standing}
 use Rattle.dir_header.specs.HomeParts.{blank, joined, line_header, home_view, IsHomeSide}
@@ -43,23 +44,23 @@ module _ {D : Type 0} (dir : Directory) (sizes : Sizes) (node : ℕ) (headers : 
 
   -- a node goes
   module _ (n : ℕ) (was : Bool) (h1 h2 : Fields) (was-is : was ≡ listed (list_at dir p) n) (read1 : h1 ≡ f) (read2 : h2 ≡ f) where
-    pub acks-asked : (awaits_acks h1.wait && was) ≡ true → 0 < h2.acks
-    acks-asked e = subst (λ h. 0 < h.acks) (sym read2) (acks-some dir sizes node headers memory d budget holders is line own p p-is n ((λ i. awaits_acks ((sym read1) i).wait && (sym was-is) i) ∙ e))
+    pub acks-asked : (is_invalidate h1.wait && was) ≡ true → 0 < h2.acks
+    acks-asked e = subst (λ h. 0 < h.acks) (sym read2) (acks-some dir sizes node headers memory d budget holders is line own p p-is n ((λ i. is_invalidate ((sym read1) i).wait && (sym was-is) i) ∙ e))
 
     pub was-returns : was ≡ listed (header_at view line).list n
     was-returns = was-is ∙ ap (λ k. listed (list_at dir k) n) p-is ∙ ap (λ h. listed h.list n) (sym old-is)
 
-    module _ (acks : ℕ) (h3 : Fields) (acks-is : acks ≡ (if awaits_acks h1.wait && was then h2.acks - 1 else h2.acks)) (read3 : h3 ≡ f)
+    module _ (acks : ℕ) (h3 : Fields) (acks-is : acks ≡ (if is_invalidate h1.wait && was then h2.acks - 1 else h2.acks)) (read3 : h3 ≡ f)
         (dir' : Directory) (d' : D) (dir-was : dir' ≡ with_list dir p (unlist (list_at dir p) n)) where
       abbrev gone : Fields
       gone = record h3 { acks = acks }
 
-      acks_are : acks ≡ (if awaits_acks f.wait && listed old.list n then f.acks - 1 else f.acks)
-      acks_are = acks-is ∙ (λ i. if awaits_acks (read1 i).wait && (was-is ∙ ap (λ k. listed (list_at dir k) n) p-is) i then (read2 i).acks - 1 else (read2 i).acks)
+      acks_are : acks ≡ (if is_invalidate f.wait && listed old.list n then f.acks - 1 else f.acks)
+      acks_are = acks-is ∙ (λ i. if is_invalidate (read1 i).wait && (was-is ∙ ap (λ k. listed (list_at dir k) n) p-is) i then (read2 i).acks - 1 else (read2 i).acks)
 
-      due : awaits_acks h3.wait ≡ true → acks ≡ count (unlist (list_at dir p) n)
+      due : is_invalidate h3.wait ≡ true → acks ≡ count (unlist (list_at dir p) n)
       due waits =
-          let waits' : awaits_acks f.wait ≡ true = ap (λ h. awaits_acks h.wait) (sym read3) ∙ waits in
+          let waits' : is_invalidate f.wait ≡ true = ap (λ h. is_invalidate h.wait) (sym read3) ∙ waits in
           let all = acks-old dir sizes node headers memory d budget holders is line own p p-is waits' in
           acks_are ∙ ap (λ b. if b && listed old.list n then f.acks - 1 else f.acks) waits' ∙ fewer (listed old.list n) f.acks (count old.list) all ∙ sym (count-unlist old.list n)
           ∙ ap (λ k. count (unlist (list_at dir k) n)) (sym p-is)
@@ -109,12 +110,12 @@ module _ {D : Type 0} (dir : Directory) (sizes : Sizes) (node : ℕ) (headers : 
     held_here : links ≡ held_by dir.charge old.list
     held_here = held ∙ ap (λ k. held_by dir.charge (list_at dir k)) p-is
 
-    module _ (wait : Wait) (listed_count acks : ℕ) (count-is : listed_count ≡ count (list_at dir p)) (acks-is : acks ≡ (if awaits_acks wait then listed_count else 0)) where
+    module _ (wait : Wait) (listed_count acks : ℕ) (count-is : listed_count ≡ count (list_at dir p)) (acks-is : acks ≡ (if is_invalidate wait then listed_count else 0)) where
       abbrev waiting : Fields
       waiting = record { local = h.local; dirty = h.dirty; wait = wait; acks = acks }
 
-      acks_here : acks ≡ (if awaits_acks wait then count old.list else 0)
-      acks_here = acks-is ∙ ap (λ k. if awaits_acks wait then k else 0) (count-is ∙ ap (λ k. count (list_at dir k)) p-is)
+      acks_here : acks ≡ (if is_invalidate wait then count old.list else 0)
+      acks_here = acks-is ∙ ap (λ k. if is_invalidate wait then k else 0) (count-is ∙ ap (λ k. count (list_at dir k)) p-is)
 
       pub waits-kept : is_pending (header_at view line) ≡ false → is_idle wait ≡ false → budget' ≡ record budget { used = budget.used + 1 } → (false ≡ true ↔ (budget.used ≡ budget.limit)) → after ≡ standing_of wait links →
           IsHomeSide dir sizes node (set headers p waiting) memory d budget' holders'

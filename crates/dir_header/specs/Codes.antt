@@ -5,30 +5,23 @@ use Rattle.std.specs.Coded.{Coded, code_by, coded×, coded_ℕ, coded_bool, code
 use Rattle.line_map.specs.Sizes.{Sizes}
 use Rattle.op_model.specs.Nodes.{Nodes}
 pub use Rattle.op_model.specs.Codes.{nodes_code}
-use Rattle.op_model.specs.Codes.{sizes_code, header_code}
+use Rattle.op_model.specs.Codes.{sizes_code, header_code, charge_code}
+use Rattle.op_model.specs.Shares.{Headers}
 use Rattle.dir_header.specs.Plain.{PlainView}
 use Rattle.dir_header.specs.Standings.{HoldersView}
 use Rattle.dir_header.specs.Sharers.{Charge, Linked, Unlinked, is_linked}
-use Rattle.dir_header.specs.HomeSides.{HomeView, Headers}
+use Rattle.dir_header.specs.HomeSides.{HomeView}
 
 abbrev pub plain_code : Coded PlainView
 plain_code =
     code_by (List Nodes × (ℕ × ℕ)) (coded× (coded_list nodes_code) (coded× coded_ℕ coded_ℕ))
     (λ d. (d.lists, (d.links, d.nodes))) (λ p. record { lists = p.0; links = p.1.0; nodes = p.1.1 }) (λ _. refl)
 
+abbrev pub listed_code : Coded (List ℕ)
+listed_code = coded_list coded_ℕ
+
 abbrev pub holders_code : Coded HoldersView
 holders_code = code_by (Nodes × ℕ) (coded× nodes_code coded_ℕ) (λ h. (h.victims, h.pending)) (λ p. record { victims = p.0; pending = p.1 }) (λ _. refl)
-
-abbrev charge_where : Bool → Charge
-charge_where true = Linked
-charge_where false = Unlinked
-
-pub charge_where-is_linked : (charge : Charge) → charge_where (is_linked charge) ≡ charge
-charge_where-is_linked Linked = refl
-charge_where-is_linked Unlinked = refl
-
-abbrev pub charge_code : Coded Charge
-charge_code = code_by Bool coded_bool is_linked charge_where charge_where-is_linked
 
 abbrev pub home_code : {D : Type 0} → Coded D → Coded (HomeView D)
 home_code {D} dir =

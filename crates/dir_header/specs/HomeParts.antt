@@ -8,9 +8,10 @@ use Rattle.op_model.specs.declared.state.Wait.TheVariants.{Idle}
 use Rattle.op_model.specs.Nodes.{Nodes, listed, none}
 use Rattle.op_model.specs.Operations.{Words}
 use Rattle.op_model.specs.Lines.{Header}
+use Rattle.op_model.specs.Shares.{Headers}
 use Rattle.dir_header.specs.Sharers.{Directory}
 use Rattle.dir_header.specs.Budgets.{BudgetView}
-use Rattle.dir_header.specs.HomeSides.{HomeView, Headers, Fields, header_at, pending_in, IsHome}
+use Rattle.dir_header.specs.HomeSides.{HomeView, Fields, header_at, pending_in, IsHome}
 use Rattle.dir_header.specs.Standings.{HoldersView, standing_in, stands_victim, stands_pending}
 
 -- the headers of so many lines, from this one on

@@ -7,14 +7,11 @@ use Rattle.line_map.specs.Sizes.{Sizes, home_of}
 use Rattle.op_model.specs.Nodes.{Nodes, listed, unlist, count, none}
 use Rattle.op_model.specs.declared.state.Wait.{Wait}
 use Rattle.op_model.specs.Lines.{Header, Room}
-use Rattle.op_model.specs.Shares.{Share, header_of, pending_lines, held_links, room_of}
-use Rattle.op_model.specs.Events.Node.{fits_victim}
+use Rattle.op_model.specs.Shares.{Headers, header_in, pending_among, links_among, room_among}
+use Rattle.op_model.specs.Events.Node.{fits_among}
+use Rattle.op_model.specs.Tables.Remote.{is_invalidate}
 use Rattle.dir_header.specs.Sharers.{Directory, Charge, Linked, IsDirectory, list_at, held_in}
-pub use Rattle.dir_header.specs.Standings.{awaits_acks}
 pub use Rattle.dir_header.specs.declared.header.Header.{Header as Fields}
-
-abbrev pub Headers : Type 0
-Headers = fin.FinMap nat_cmp Header
 
 -- the machine, the node, whether lists cost links, the directory as its own contracts see it, and the headers of the node's lines
 pub record HomeView (D : Type 0) : Type 0 where
@@ -24,12 +21,9 @@ pub record HomeView (D : Type 0) : Type 0 where
   pub dir : D
   pub headers : Headers
 
--- the share of a node that has these headers and nothing else
-abbrev pub bare : Headers → Share
-bare headers = record { place = 0; want = None; copies = fin.empty; headers = headers }
-
+-- the header of a line
 abbrev pub header_at : {D : Type 0} → HomeView D → ℕ → Header
-header_at home line = header_of home.sizes (bare home.headers) line
+header_at home line = header_in home.sizes home.headers line
 
 -- the fields of a header that aren't kept in the directory or in memory
 abbrev pub fields : Header → Fields
@@ -37,18 +31,15 @@ fields header = record { local = header.local; dirty = header.dirty; wait = head
 
 -- the room that a home has
 abbrev pub room_in : {D : Type 0} → HomeView D → Room
-room_in home = room_of home.charge home.sizes (bare home.headers)
+room_in home = room_among home.charge home.sizes home.headers
 
 -- how many lines are pending
 abbrev pub pending_in : {D : Type 0} → HomeView D → ℕ
-pending_in home = pending_lines (bare home.headers)
+pending_in home = pending_among home.headers
 
--- the lines of a home, rising, and whether one of them holds a link and isn't pending
-abbrev pub lines_in : {D : Type 0} → HomeView D → List ℕ
-lines_in home = range_with_len (home.node * home.sizes.lines) home.sizes.lines
-
+-- whether a line holds a link and isn't pending
 abbrev pub is_victim : {D : Type 0} → HomeView D → ℕ → Bool
-is_victim home line = fits_victim home.charge home.sizes home.node (bare home.headers) line
+is_victim home line = fits_among home.charge home.sizes home.node home.headers line
 
 -- a home with another header of a line
 abbrev pub with_header : {D : Type 0} → HomeView D → ℕ → Header → HomeView D
@@ -61,11 +52,11 @@ relisted home dir line list = record home { dir = dir; headers = fin.insert home
 -- a header that has lost a node of its list. Where its acknowledgement is due, that is due no more
 abbrev pub unlisted : Header → ℕ → Header
 unlisted header node =
-    record header { list = unlist header.list node; acks = (if awaits_acks header.wait && listed header.list node then header.acks - 1 else header.acks) }
+    record header { list = unlist header.list node; acks = (if is_invalidate header.wait && listed header.list node then header.acks - 1 else header.acks) }
 
 -- a header that begins to wait
 abbrev pub made_pending : Header → Wait → Header
-made_pending header wait = record header { wait = wait; acks = (if awaits_acks wait then count header.list else 0) }
+made_pending header wait = record header { wait = wait; acks = (if is_invalidate wait then count header.list else 0) }
 
 -- What each home keeps: a header for each of its lines and for none else, with the list that the directory has and as many words
 -- as a line; acknowledgements are due of each listed node; few enough lines are pending; links held are those that the directory says
@@ -79,10 +70,10 @@ pub record IsHome {D : Type 0} (dir : Directory) (home : HomeView D) : Type 0 wh
   pub own : (line : ℕ) → is_some (fin.get home.headers line) ≡ true ↔ home_of home.sizes line ≡ home.node
   pub lists : (line : ℕ) → home_of home.sizes line ≡ home.node → (header_at home line).list ≡ list_at dir (line % home.sizes.lines)
   pub below : (line q : ℕ) → home_of home.sizes line ≡ home.node → listed (header_at home line).list q ≡ true → q < home.sizes.nodes
-  pub acks : (line : ℕ) → home_of home.sizes line ≡ home.node → awaits_acks (header_at home line).wait ≡ true → (header_at home line).acks ≡ count (header_at home line).list
+  pub acks : (line : ℕ) → home_of home.sizes line ≡ home.node → is_invalidate (header_at home line).wait ≡ true → (header_at home line).acks ≡ count (header_at home line).list
   pub width : (line : ℕ) → home_of home.sizes line ≡ home.node → length (header_at home line).memory ≡ home.sizes.words
   pub few : pending_in home ≤ home.sizes.pending
-  pub held : home.charge ≡ Linked → held_links (bare home.headers) ≡ held_in dir
+  pub held : home.charge ≡ Linked → links_among home.headers ≡ held_in dir
 
 -- a directory for a home of this machine, in which every list is empty
 pub record IsFresh (sizes : Sizes) (dir : Directory) : Type 0 where

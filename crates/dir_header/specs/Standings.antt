@@ -2,16 +2,10 @@
 use Rattle.std.specs.Prelude.{ℕ, ◌+◌, ◌-◌, Bool, true, false, ◌==◌, if◌then◌else◌}
 use Rattle.op_model.specs.Nodes.{Nodes, enlist, unlist}
 use Rattle.op_model.specs.declared.state.Wait.{Wait}
-use Rattle.op_model.specs.declared.state.Wait.TheVariants.{Invalidate}
 use Rattle.op_model.specs.Lines.{Header, is_idle}
 use Rattle.dir_header.specs.Sharers.{Charge, held_by}
 use Rattle.dir_header.specs.declared.header.Standing.{Standing}
 use Rattle.dir_header.specs.declared.header.Standing.TheVariants.{Linkless, Victim, Pending}
-
--- whether acknowledgements of the listed nodes are waited for
-abbrev pub awaits_acks : Wait → Bool
-awaits_acks (Invalidate grantee) = true
-awaits_acks _ = false
 
 abbrev pub standing_of : Wait → ℕ → Standing
 standing_of wait links = if links == 0 then Linkless else (if is_idle wait then Victim else Pending)

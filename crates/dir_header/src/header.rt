@@ -1,7 +1,8 @@
 //! Headers of lines, and how a line stands to the links of its home.
 
 ghost use Rattle.std.specs.Prelude.{◌≡◌, ◌-◌, ◌<◌, ◌&&◌, true, if◌then◌else◌};
-ghost use Rattle.dir_header.specs.Standings.{awaits_acks, standing_of};
+ghost use Rattle.op_model.specs.Tables.Remote.{is_invalidate};
+ghost use Rattle.dir_header.specs.Standings.{standing_of};
 
 use op_model::Wait;
 
@@ -50,7 +51,7 @@ pub(crate) fn standing_by(wait: Wait, links: u32) -> Standing
 
 /// The acknowledgements that are due where a line begins to wait so with so many listed nodes.
 pub(crate) fn acks_due(wait: Wait, listed: u32) -> u32
-    ensures { result ≡ (if awaits_acks wait then listed else 0) }
+    ensures { result ≡ (if is_invalidate wait then listed else 0) }
 {
     match wait {
         Wait::Invalidate(_) => listed,
@@ -60,8 +61,8 @@ pub(crate) fn acks_due(wait: Wait, listed: u32) -> u32
 
 /// The acknowledgements that are due of a line after a node of its list is asked to go.
 pub(crate) fn acks_left(wait: Wait, acks: u32, was_listed: bool) -> u32
-    requires { (awaits_acks wait && was_listed) ≡ true → 0 < acks }
-    ensures { result ≡ (if awaits_acks wait && was_listed then acks - 1 else acks) }
+    requires { (is_invalidate wait && was_listed) ≡ true → 0 < acks }
+    ensures { result ≡ (if is_invalidate wait && was_listed then acks - 1 else acks) }
 {
     match wait {
         Wait::Invalidate(_) if was_listed => acks - 1,

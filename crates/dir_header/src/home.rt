@@ -8,8 +8,10 @@ ghost use Rattle.op_model.specs.Lines.{is_idle, is_pending};
 ghost use Rattle.op_model.specs.declared.state.Wait.TheVariants.{Idle};
 ghost use Rattle.op_model.specs.Tables.Home.{lacks_link};
 ghost use Rattle.op_model.specs.Run.Runs.{start_share};
+ghost use Rattle.op_model.specs.Tables.Remote.{is_invalidate};
+ghost use Rattle.op_model.specs.Run.Seeded.{lines_of};
 ghost use Rattle.dir_header.specs.Sharers.{is_linked, only_this, with_list, list_at};
-ghost use Rattle.dir_header.specs.HomeSides.{IsFresh, IsHome, awaits_acks, fields, header_at, is_victim, lines_in, made_pending, pending_in, relisted, room_in, unlisted, with_header};
+ghost use Rattle.dir_header.specs.HomeSides.{IsFresh, IsHome, fields, header_at, is_victim, made_pending, pending_in, relisted, room_in, unlisted, with_header};
 
 use crate::budget::Budget;
 use crate::header::{Header, acks_due, acks_left, standing_by};
@@ -129,7 +131,7 @@ impl<D: Sharers> HomeSide<D> {
 
     /// The least line that holds a link and isn't pending.
     pub fn least_victim(&self) -> Option<u32>
-        ensures { result ≡ find (is_victim self.now) (lines_in self.now) }
+        ensures { result ≡ find (is_victim self.now) (lines_of self.now.sizes self.now.node) }
     {
         let m = self.holders.least()?;
         Some(self.node * self.cfg.lines() + m)
@@ -137,7 +139,7 @@ impl<D: Sharers> HomeSide<D> {
 
     /// The line at a place, counted from 0, among all that hold a link and aren't pending, in increasing order.
     pub fn victim_at(&self, i: u32) -> Option<u32>
-        ensures { result ≡ slice_get (filter (is_victim self.now) (lines_in self.now)) i }
+        ensures { result ≡ slice_get (filter (is_victim self.now) (lines_of self.now.sizes self.now.node)) i }
     {
         let m = self.holders.at(i)?;
         Some(self.node * self.cfg.lines() + m)
@@ -175,7 +177,7 @@ impl<D: Sharers> HomeSide<D> {
     pub fn list(&mut self, g: u32, node: u32) -> Result<(), NoRoom>
         requires line { home_of self.old.sizes g ≡ self.old.node }
         requires node { node < self.old.sizes.nodes }
-        requires calm { awaits_acks (header_at self.old g).wait ≡ false }
+        requires calm { is_invalidate (header_at self.old g).wait ≡ false }
         ensures room { IsErr result ↔ (lacks_link (room_in self.old) node (header_at self.old g) ≡ true) }
         ensures ok { OnOk result (self.new ≡ relisted self.old self.new.dir g (enlist (header_at self.old g).list node)) }
         ensures dir { OnOk result (D.directory self.new.dir ≡ with_list (D.directory self.old.dir) (g % self.old.sizes.lines) (enlist (header_at self.old g).list node)) }
@@ -194,7 +196,7 @@ impl<D: Sharers> HomeSide<D> {
     pub fn list_only(&mut self, g: u32, only: Option<u32>)
         requires line { home_of self.old.sizes g ≡ self.old.node }
         requires node { IfSome only (λ node. node < self.old.sizes.nodes) }
-        requires calm { awaits_acks (header_at self.old g).wait ≡ false }
+        requires calm { is_invalidate (header_at self.old g).wait ≡ false }
         ensures home { self.new ≡ relisted self.old self.new.dir g (only_this only) }
         ensures dir { D.directory self.new.dir ≡ with_list (D.directory self.old.dir) (g % self.old.sizes.lines) (only_this only) }
     {
@@ -206,15 +208,19 @@ impl<D: Sharers> HomeSide<D> {
         self.holders.change(m, before, after);
     }
 
-    /// Takes a node off a line's list, and answers whether it was listed. Where acknowledgements are waited for, that of a listed node is then due no more.
+    /// Takes a node off a line's list, and answers whether it was listed. Where it wasn't, nothing changes. Where acknowledgements are waited for, that of a listed node is then due no more.
     pub fn unlist(&mut self, g: u32, node: u32) -> bool
         requires line { home_of self.old.sizes g ≡ self.old.node }
         requires node { node < self.old.sizes.nodes }
         ensures was { result ≡ listed (header_at self.old g).list node }
         ensures home { self.new ≡ record (with_header self.old g (unlisted (header_at self.old g) node)) { dir = self.new.dir } }
         ensures dir { D.directory self.new.dir ≡ with_list (D.directory self.old.dir) (g % self.old.sizes.lines) (unlist_of (header_at self.old g).list node) }
+        ensures unchanged { result ≡ false → self.new ≡ self.old }
     {
         let m = self.place(g);
+        if !self.dir.contains(m, node) {
+            return false;
+        }
         let wait = self.headers[m as usize].wait;
         let before = standing_by(wait, self.dir.holds(m));
         let was = self.dir.remove(m, node);

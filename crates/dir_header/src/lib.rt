@@ -6,6 +6,7 @@ mod header;
 mod holders;
 mod home;
 mod line_set;
+mod listed;
 mod plain;
 mod sharers;
 #[cfg(test)]
@@ -15,6 +16,7 @@ mod words;
 pub use budget::Budget;
 pub use header::Header;
 pub use home::HomeSide;
+pub use listed::Listed;
 pub use op_model::{Grantee, Wait};
 pub use plain::PlainDir;
 pub use sharers::{NoRoom, Sharers};

@@ -1,9 +1,10 @@
 //! A directory whose lists cost no links.
 
-ghost use Rattle.std.specs.Prelude.{◌≡◌, ◌≤◌, IfOk, replicate};
+ghost use Rattle.std.specs.Prelude.{◌≡◌, ◌≤◌, None, IfOk, replicate};
 ghost use Rattle.op_model.specs.Nodes.{none};
 ghost use Rattle.dir_header.specs.Plain.{plain_directory};
 
+use crate::listed::Listed;
 use crate::sharers::{NoRoom, Sharers};
 use crate::words;
 use op_model::NoMemory;
@@ -51,6 +52,8 @@ impl PlainDir {
 impl Sharers for PlainDir {
     ghost directory = { plain_directory };
 
+    ghost link_line = { λ dir link. None };
+
     fn lines(&self) -> u32 {
         self.lists.len() as u32
     }
@@ -65,6 +68,10 @@ impl Sharers for PlainDir {
 
     fn nth(&self, m: u32, i: u32) -> u32 {
         words::nth(self.lists[m as usize], i)
+    }
+
+    fn listed(&self, m: u32) -> Listed {
+        Listed::new(self.lists[m as usize])
     }
 
     fn holds(&self, _m: u32) -> u32 {
@@ -86,8 +93,11 @@ impl Sharers for PlainDir {
 
     fn remove(&mut self, m: u32, node: u32) -> bool {
         let list = self.lists[m as usize];
+        if !words::has(list, node) {
+            return false;
+        }
         self.lists[m as usize] = words::without(list, node);
-        words::has(list, node)
+        true
     }
 
     fn clear_to(&mut self, m: u32, only: Option<u32>) {

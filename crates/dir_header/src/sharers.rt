@@ -1,8 +1,10 @@
 //! What a directory of one home promises.
 
-ghost use Rattle.std.specs.Prelude.{◌≡◌, ◌<◌, ◌↔◌, ◌⊎◌, length, slice_index, IsTrue, IsErr, OnOk, OnErr, IfSome, IsNone};
+ghost use Rattle.std.specs.Prelude.{◌≡◌, ◌<◌, ◌↔◌, ◌⊎◌, ℕ, false, Option, length, slice_index, IsTrue, IsErr, OnOk, OnErr, IfSome, IsNone};
 ghost use Rattle.op_model.specs.Nodes.{listed, count, enlist, unlist, in_order};
 ghost use Rattle.dir_header.specs.Sharers.{Directory, Unlinked, IsDirectory, list_at, held_by, free_in, needs_link as needs_link_in, with_list, only_this};
+
+use crate::listed::Listed;
 
 /// A link is needed and none is free.
 #[derive(Clone, Copy, Debug, PartialEq, Eq)]
@@ -12,6 +14,9 @@ pub struct NoRoom;
 pub trait Sharers: Drop {
     // What contracts see of a directory. An implementation has one charge.
     ghost directory: { Self → Directory };
+
+    // The line in whose list a link stands, and none where the link is free.
+    ghost link_line: { Self → ℕ → Option ℕ };
 
     /// How many lines there are.
     fn lines(&self) -> u32
@@ -34,6 +39,11 @@ pub trait Sharers: Drop {
         requires line { m < length (directory self.now).lists }
         requires place { i < count (list_at (directory self.now) m) }
         ensures { result ≡ slice_index (in_order (list_at (directory self.now) m)) i };
+
+    /// The nodes that are listed for a line, each handed out once, in increasing order.
+    fn listed(&self, m: u32) -> Listed
+        requires { m < length (directory self.now).lists }
+        ensures { result ≡ in_order (list_at (directory self.now) m) };
 
     /// How many links a line's list holds.
     fn holds(&self, m: u32) -> u32
@@ -58,12 +68,13 @@ pub trait Sharers: Drop {
         ensures ok { OnOk result (directory self.new ≡ with_list (directory self.old) m (enlist (list_at (directory self.old) m) node)) }
         ensures err { OnErr result (self.new ≡ self.old) };
 
-    /// Takes a node off a line's list, and answers whether it was listed.
+    /// Takes a node off a line's list, and answers whether it was listed. Where it wasn't, nothing changes.
     fn remove(&mut self, m: u32, node: u32) -> bool
         requires line { m < length (directory self.old).lists }
         requires bound { node < (directory self.old).nodes }
         ensures was { result ≡ listed (list_at (directory self.old) m) node }
-        ensures after { directory self.new ≡ with_list (directory self.old) m (unlist (list_at (directory self.old) m) node) };
+        ensures after { directory self.new ≡ with_list (directory self.old) m (unlist (list_at (directory self.old) m) node) }
+        ensures unchanged { result ≡ false → self.new ≡ self.old };
 
     /// A line's list becomes that of this node alone, or empty.
     fn clear_to(&mut self, m: u32, only: Option<u32>)
@@ -71,9 +82,10 @@ pub trait Sharers: Drop {
         requires bound { IfSome only (λ node. node < (directory self.old).nodes) }
         ensures { directory self.new ≡ with_list (directory self.old) m (only_this only) };
 
-    /// A line that holds a link, found from a link's number. There may be none only where a link is free, or where lists cost no links.
+    /// The line in whose list a link stands, found from the link's number. There may be none only where a link is free, or where lists cost no links.
     fn line_of_link(&self, link: u32) -> Option<u32>
         requires { link < (directory self.now).links }
+        ensures found { result ≡ link_line self.now link }
         ensures holds { IfSome result (λ m. (m < length (directory self.now).lists) × (0 < held_by (directory self.now).charge (list_at (directory self.now) m))) }
         ensures free { IsNone result → (0 < free_in (directory self.now)) ⊎ ((directory self.now).charge ≡ Unlinked) };
 }

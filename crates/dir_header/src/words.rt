@@ -42,13 +42,7 @@ pub(crate) fn least(word: u64) -> u32
 pub(crate) fn count(word: u64) -> u32
     ensures { result ≡ count_of (members word) }
 {
-    let mut found = 0;
-    for i in 0..64 {
-        if has(word, i) {
-            found += 1;
-        }
-    }
-    found
+    word.count_ones()
 }
 
 /// The number at a place of the set in increasing order, counted from 0.

@@ -2,15 +2,17 @@
 use Rattle.std.specs.Prelude.{◌≡◌, ℕ, ◌<◌, ◌≤◌, ◌==◌, Bool, true, false, not, ◌||◌, List, [], ◌∷◌, length, slice_get, Option, Some, None, is_some, Result, Ok, Err, MatchResult, OnOk, IsErr, IsTrue, IfSome, Contains, ◌↔◌}
 use Rattle.std.specs.Result.{is_err}
 use Rattle.std.specs.Option.{option_eq}
-use Rattle.std.proofs.Common.{refl, sym, ap, subst, ◌∙◌, arith, set, get_or}
+use Rattle.std.specs.Prelude.{option_map, slice_index_or, zero, suc}
+use Rattle.std.proofs.Common.{cond, MatchOption, refl, sym, ap, subst, ◌∙◌, arith, set, get_or}
 use Rattle.std.proofs.lemmas.Bool.Decides.{nat_tests}
 use Rattle.std.proofs.lemmas.List.{get_or_read, set-get_or, length-map}
 use Rattle.op_model.specs.Nodes.{Nodes, none, listed, enlist, count, same_nodes, listed-enlist}
 use Rattle.op_model.specs.Lines.{nobody_listed}
-use Rattle.link_store.specs.Pools.{Chain, Pool, chain_of, links_of, IsLinkOf}
+use Rattle.link_store.specs.Pools.{Chain, Pool, chain_of, links_of, times_in, IsLinkOf}
+use Rattle.link_store.proofs.Times.{contains_times, times_contains}
 use Rattle.dir_header.specs.Sharers.{with_list, list_at, needs_link, free_in, held_by, Linked}
 use Rattle.dir_header.specs.Plain.{PlainView, plain_directory}
-use Rattle.sharer_dir.specs.Linked.{LinkedView, head_at, set_at, nodes_in, Stands, IsLinkedDir, is_head, linked_directory}
+use Rattle.sharer_dir.specs.Linked.{LinkedView, head_at, set_at, nodes_in, Stands, IsLinkedDir, is_head, line_among, linked_directory}
 use Rattle.sharer_dir.specs.Kept.{IsKept}
 use Rattle.sharer_dir.proofs.Changed.{sets_after}
 use Rattle.sharer_dir.proofs.Directories.{free_all, held_chain}
@@ -119,3 +121,33 @@ line_holds dir link (Some m) is line = holds_link dir m link is ((line m).0 refl
 -- where the link is free, some link is
 pub unused_is_free : (dir : LinkedView) (link : ℕ) → IsLinkedDir dir → Contains dir.pool.free link → 0 < free_in (linked_directory dir)
 unused_is_free dir link is has = let free = free_all dir is in let there = has.1 in omega (arith, free, there)
+
+-- the line in whose chain a link stands is found among the chains
+module _ (link : ℕ) where
+  abbrev HasLine : List Chain → Option ℕ → Type 0
+  HasLine chains r = MatchOption r ((m : ℕ) → m < length chains → times_in link (links_of (slice_index_or chains m [])) ≡ 0) (λ m. (m < length chains) × (0 < times_in link (links_of (slice_index_or chains m []))))
+
+  has_line : (chains : List Chain) → HasLine chains (line_among link chains)
+  has_line [] = λ m within. absurd (omega arith)
+  has_line (chain ∷ chains) = step (times_in link (links_of chain) == 0) refl (line_among link chains) (has_line chains)
+    where
+      first : (e : (times_in link (links_of chain) == 0) ≡ true) (rest : (m : ℕ) → m < length chains → times_in link (links_of (slice_index_or chains m [])) ≡ 0) (m : ℕ) → m < suc (length chains) → times_in link (links_of (slice_index_or (chain ∷ chains) m [])) ≡ 0
+      first e rest zero within = grind (arith, nat_tests)
+      first e rest (suc m) within = rest m (omega arith)
+
+      step : (b : Bool) → (times_in link (links_of chain) == 0) ≡ b → (r : Option ℕ) → HasLine chains r → HasLine (chain ∷ chains) (cond b (option_map suc r) (Some 0))
+      step true e None rest = first e rest
+      step true e (Some k) there = (let l = there.0 in omega arith, there.1)
+      step false e r there = (omega arith, grind (arith, nat_tests))
+
+pub line_is : (pool : Pool) (link : ℕ) (answer : Option ℕ) → ((m : ℕ) → (answer ≡ Some m) ↔ IsLinkOf pool link m) → answer ≡ line_among link pool.chains
+line_is pool link answer line = by (line_among link pool.chains) (has_line link pool.chains) answer line
+  where
+    by : (found : Option ℕ) → HasLine link pool.chains found → (answer : Option ℕ) → ((m : ℕ) → (answer ≡ Some m) ↔ IsLinkOf pool link m) → answer ≡ found
+    by (Some m) there answer line = (line m).1 (there.0, times_contains link (links_of (chain_of pool m)) there.1)
+    by None none None line = refl
+    by None none (Some k) line =
+        let of = (line k).0 refl in
+        let some = contains_times link (links_of (chain_of pool k)) of.1 in
+        let zero_times = none k of.0 in
+        absurd (omega (arith, some, zero_times))

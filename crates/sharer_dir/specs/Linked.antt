@@ -1,10 +1,10 @@
 -- A directory whose lists cost links: the head of each list stands in its line's record, and each other node in a link.
-use Rattle.std.specs.Prelude.{◌≡◌, ℕ, ◌<◌, ◌==◌, Bool, true, false, if◌then◌else◌, List, [], ◌∷◌, length, replicate, slice_index_or, slice_set, Option, Some, None, refl}
+use Rattle.std.specs.Prelude.{◌≡◌, ℕ, suc, option_map, ◌<◌, ◌==◌, Bool, true, false, if◌then◌else◌, List, [], ◌∷◌, length, replicate, slice_index_or, slice_set, Option, Some, None, refl}
 use Rattle.std.specs.Coded.{Coded, code_by, coded×, coded_ℕ, coded_list, coded_option}
 use Rattle.op_model.specs.Nodes.{Nodes, none, listed, enlist, unlist, count}
 use Rattle.dir_header.specs.Codes.{nodes_code}
 use Rattle.dir_header.specs.Sharers.{Directory, Linked, only_this}
-use Rattle.link_store.specs.Pools.{Chain, Pool, IsPartition, times_in, nodes_of, chain_of, with_chain, first_pool, first_node, after_put, after_pop, after_unlink, link_with}
+use Rattle.link_store.specs.Pools.{Chain, Pool, IsPartition, times_in, nodes_of, links_of, chain_of, with_chain, first_pool, first_node, after_put, after_pop, after_unlink, link_with}
 
 -- A linked directory: the head of each line's list, the pool with the rest of the lists, and the sets that the lists stand for
 pub record LinkedView : Type 0 where
@@ -42,6 +42,14 @@ pub record IsLinkedDir (dir : LinkedView) : Type 0 where
 abbrev pub linked_directory : LinkedView → Directory
 linked_directory dir = record { lists = dir.sets; charge = Linked; links = dir.pool.count; nodes = 64 }
 
+-- the line in whose chain a link stands
+abbrev pub line_among : ℕ → List Chain → Option ℕ
+line_among link [] = None
+line_among link (chain ∷ chains) = if times_in link (links_of chain) == 0 then option_map suc (line_among link chains) else Some 0
+
+abbrev pub line_with : LinkedView → ℕ → Option ℕ
+line_with dir link = line_among link dir.pool.chains
+
 -- at first all lists are empty and all links are free
 abbrev pub first_linked : ℕ → ℕ → LinkedView
 first_linked lines links = record { heads = replicate lines None; pool = first_pool lines links; sets = replicate lines none }
@@ -61,13 +69,13 @@ abbrev pub is_head : Option ℕ → ℕ → Bool
 is_head None node = false
 is_head (Some head) node = head == node
 
--- the directory after a node was removed, which is the head or not: the node of the first link becomes the head
+-- the directory after a listed node was removed, which is the head or not: the node of the first link becomes the head
 abbrev pub removed : Bool → LinkedView → ℕ → ℕ → LinkedView
 removed true dir m node = record { heads = slice_set dir.heads m (first_node (chain_of dir.pool m)); pool = after_pop dir.pool m (chain_of dir.pool m); sets = slice_set dir.sets m (unlist (set_at dir m) node) }
 removed false dir m node = record { heads = dir.heads; pool = after_unlink dir.pool m node (link_with (chain_of dir.pool m) node); sets = slice_set dir.sets m (unlist (set_at dir m) node) }
 
 abbrev pub after_remove : LinkedView → ℕ → ℕ → LinkedView
-after_remove dir m node = removed (is_head (head_at dir m) node) dir m node
+after_remove dir m node = if listed (set_at dir m) node then removed (is_head (head_at dir m) node) dir m node else dir
 
 -- the pool after the links of this chain of a line became free one by one, from the first one on
 abbrev pub emptied : Chain → Pool → ℕ → Pool

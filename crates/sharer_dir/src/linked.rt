@@ -1,14 +1,14 @@
 //! The directory whose lists are linked.
 
-ghost use Rattle.std.specs.Prelude.{◌≡◌, ℕ, ◌<◌, ◌↔◌, ◌⊎◌, length, slice_index, IfOk, IfSome, IsErr, IsNone, IsTrue, OnOk, OnErr, Contains};
+ghost use Rattle.std.specs.Prelude.{◌≡◌, ℕ, false, ◌<◌, ◌↔◌, ◌⊎◌, length, slice_index, IfOk, IfSome, IsErr, IsNone, IsTrue, OnOk, OnErr, Contains};
 ghost use Rattle.op_model.specs.Nodes.{listed, enlist, unlist};
 ghost use Rattle.link_store.specs.Pools.{IsLinkOf, IsPartition, chain_of};
 ghost use Rattle.dir_header.specs.Sharers.{with_list, list_at, only_this, needs_link as needs_link_in, free_in, held_by, IsDirectory, Linked, Unlinked};
 ghost use Rattle.sharer_dir.specs.Texts.{list_text, free_list_text};
-ghost use Rattle.sharer_dir.specs.Linked.{IsLinkedDir, linked_directory, first_linked, after_add, after_remove, after_clear, emptied, head_at};
+ghost use Rattle.sharer_dir.specs.Linked.{IsLinkedDir, linked_directory, first_linked, after_add, after_remove, after_clear, emptied, head_at, line_with};
 
 use crate::text::{put_free, put_list};
-use dir_header::{NoRoom, PlainDir, Sharers};
+use dir_header::{Listed, NoRoom, PlainDir, Sharers};
 use link_store::Links;
 use op_model::NoMemory;
 use std::alloc::Global;
@@ -84,6 +84,8 @@ fn free_chain(links: &mut Links, m: u32)
 impl Sharers for LinkedDir {
     ghost directory = { linked_directory };
 
+    ghost link_line = { line_with };
+
     fn lines(&self) -> u32
         ensures value { result ≡ length self.now.sets }
         ensures kept { IsDirectory (linked_directory self.now) }
@@ -102,6 +104,10 @@ impl Sharers for LinkedDir {
 
     fn nth(&self, m: u32, i: u32) -> u32 {
         self.sets.nth(m, i)
+    }
+
+    fn listed(&self, m: u32) -> Listed {
+        self.sets.listed(m)
     }
 
     fn holds(&self, m: u32) -> u32 {
@@ -141,9 +147,13 @@ impl Sharers for LinkedDir {
         requires bound { node < 64 }
         ensures was { result ≡ listed (list_at (linked_directory self.old) m) node }
         ensures after { linked_directory self.new ≡ with_list (linked_directory self.old) m (unlist (list_at (linked_directory self.old) m) node) }
+        ensures unchanged { result ≡ false → self.new ≡ self.old }
         ensures links { self.new ≡ after_remove self.old m node }
         ensures kept { IsLinkedDir self.new }
     {
+        if !self.sets.contains(m, node) {
+            return false;
+        }
         if self.heads[m as usize] == Some(node) {
             self.heads[m as usize] = self.links.pop_front(m);
         } else {
@@ -166,6 +176,7 @@ impl Sharers for LinkedDir {
 
     fn line_of_link(&self, link: u32) -> Option<u32>
         requires { link < self.now.pool.count }
+        ensures found { result ≡ line_with self.now link }
         ensures holds { IfSome result (λ m. (m < length self.now.sets) × (0 < held_by Linked (list_at (linked_directory self.now) m))) }
         ensures free { IsNone result → (0 < free_in (linked_directory self.now)) ⊎ (Linked ≡ Unlinked) }
         ensures line { (m : ℕ) → (result ≡ Some m) ↔ IsLinkOf self.now.pool link m }

@@ -1,11 +1,13 @@
 -- The list of the line loses a node, its acknowledgement goes where one is due, and the line stands to the links as its new list says.
-use Rattle.std.proofs.Common.{◌≡◌, ◌%◌, ◌≤◌, sym, ap, subst}
+use Rattle.std.proofs.Common.{◌≡◌, ◌%◌, ◌≤◌, false, sym, ap, ◌∙◌, subst}
 use Rattle.line_map.specs.Sizes.{home_of}
-use Rattle.op_model.specs.Nodes.{unlist}
+use Rattle.op_model.specs.Nodes.{listed, unlist}
 use Rattle.dir_header.specs.Sharers.{list_at}
 use Rattle.dir_header.specs.Standings.{counted}
 use Rattle.dir_header.proofs.Calls.{fields-read, stands, counted-least, few-least, stands-after}
 use Rattle.dir_header.proofs.Returns.{dir-returns}
+use Rattle.dir_header.specs.HomeParts.{home_view}
+use Rattle.dir_header.proofs.Unlisted.{home-same, dir-same}
 use Rattle.dir_header.proofs.Waits.{acks-asked, was-returns, gone-kept, gone-returns}
 use Rattle.dir_header.proofs.home.HomeSide.unlist.Goals as goal
 
@@ -77,3 +79,33 @@ returns-clause-dir g c =
     let own : home_of i.cfg c.args.g ≡ i.node = rw (← c.self.view_is) at c.requires.line in
     let place : c.place-m.result ≡ c.args.g % i.cfg.lines = rw (← c.self.view_is) at c.place-m.ensures.value in
     rw (← c.self.view_is) (dir-returns dir i.cfg i.node i.headers.items i.memory.items i.dir i.budget i.holders c.self.invariant c.args.g own c.place-m.result place (λ l. unlist l c.args.node) (g.D.Sharers.directory c.remove-was.new.self) c.remove-was.new.self c.remove-was.ensures.after)
+
+pub returns-then-not-contains-clause-was : goal.returns-then-not-contains-clause-was
+returns-then-not-contains-clause-was g c =
+    let i = c.self.inside in
+    let dir = g.D.Sharers.directory i.dir in
+    let home = home_view dir i.cfg i.node i.headers.items i.memory.items i.dir in
+    let own : home_of i.cfg c.args.g ≡ i.node = rw (← c.self.view_is) at c.requires.line in
+    let place : c.place-m.result ≡ c.args.g % i.cfg.lines = rw (← c.self.view_is) at c.place-m.ensures.value in
+    let off : listed (list_at dir (c.args.g % i.cfg.lines)) c.args.node ≡ false = ap (λ m. listed (list_at dir m) c.args.node) (sym place) ∙ sym c.contains.ensures ∙ c.if-not-contains.true in
+    rw (← c.self.view_is) (sym (ap (λ l. listed l c.args.node) (c.self.invariant.home.lists c.args.g own) ∙ off))
+
+pub returns-then-not-contains-clause-home : goal.returns-then-not-contains-clause-home
+returns-then-not-contains-clause-home g c =
+    let i = c.self.inside in
+    let dir = g.D.Sharers.directory i.dir in
+    let home = home_view dir i.cfg i.node i.headers.items i.memory.items i.dir in
+    let own : home_of i.cfg c.args.g ≡ i.node = rw (← c.self.view_is) at c.requires.line in
+    let place : c.place-m.result ≡ c.args.g % i.cfg.lines = rw (← c.self.view_is) at c.place-m.ensures.value in
+    let off : listed (list_at dir (c.args.g % i.cfg.lines)) c.args.node ≡ false = ap (λ m. listed (list_at dir m) c.args.node) (sym place) ∙ sym c.contains.ensures ∙ c.if-not-contains.true in
+    rw (← c.self.view_is) (home-same dir home c.self.invariant.home c.args.g c.args.node own off)
+
+pub returns-then-not-contains-clause-dir : goal.returns-then-not-contains-clause-dir
+returns-then-not-contains-clause-dir g c =
+    let i = c.self.inside in
+    let dir = g.D.Sharers.directory i.dir in
+    let home = home_view dir i.cfg i.node i.headers.items i.memory.items i.dir in
+    let own : home_of i.cfg c.args.g ≡ i.node = rw (← c.self.view_is) at c.requires.line in
+    let place : c.place-m.result ≡ c.args.g % i.cfg.lines = rw (← c.self.view_is) at c.place-m.ensures.value in
+    let off : listed (list_at dir (c.args.g % i.cfg.lines)) c.args.node ≡ false = ap (λ m. listed (list_at dir m) c.args.node) (sym place) ∙ sym c.contains.ensures ∙ c.if-not-contains.true in
+    rw (← c.self.view_is) (dir-same dir home c.self.invariant.home c.args.g c.args.node own off)

@@ -1,6 +1,8 @@
 -- The first link's node follows a head that goes; another node goes with its link.
-use Rattle.std.proofs.Common.{◌<◌, ◌∙◌, length, arith, refl}
+use Rattle.std.proofs.Common.{◌<◌, ◌∙◌, length, arith, refl, sym}
 use Rattle.link_store.specs.Pools.{chain_of, link_with}
+use Rattle.dir_header.proofs.Directories.{unlist-same}
+use Rattle.sharer_dir.specs.Linked.{linked_directory}
 use Rattle.sharer_dir.specs.Kept.{linked_view}
 use Rattle.sharer_dir.proofs.Changed.{head_removed, link_removed}
 use Rattle.sharer_dir.proofs.Answered.{head_read, head_is, head_is_not, kept_by}
@@ -30,3 +32,7 @@ invariant_of-self c =
 
 pub returns-clause-kept : goal.returns-clause-kept
 returns-clause-kept c = (invariant_of-self c).linked
+
+pub returns-then-not-contains-clause-after : goal.returns-then-not-contains-clause-after
+returns-then-not-contains-clause-after c =
+    rw (← c.self.view_is) (unlist-same (linked_directory (linked_view c.self.inside.heads.items c.self.inside.links c.self.inside.sets)) c.args.m c.args.node (sym c.contains.ensures ∙ c.if-not-contains.true))
