@@ -1,0 +1,24 @@
+-- The line is idle, and listed by its new owner or by nobody.
+use Rattle.std.proofs.Common.{sym, ap, ◌∙◌}
+use Rattle.op_model.specs.Tables.Home.{requester_of}
+use Rattle.op_model.specs.Tables.Remote.{is_invalidate}
+use Rattle.node_share.proofs.Homes.{puts-read}
+use Rattle.home_getx.proofs.Backs.{ended, fack-dirty, fack-clean}
+use Rattle.home_getx.proofs.back.on_fack.Goals as goal
+
+pub list_only-requires-clause-calm : goal.list_only-requires-clause-calm
+list_only-requires-clause-calm g c = ap (λ h. is_invalidate h.wait) (puts-read (ended c.args.home.now c.args.line c.requires.line c.end_pending.new.self c.end_pending.ensures))
+
+pub list_only-requires-else-header-clause-calm : goal.list_only-requires-else-header-clause-calm
+list_only-requires-else-header-clause-calm g c = ap (λ h. is_invalidate h.wait) (puts-read (ended c.args.home.now c.args.line c.requires.line c.end_pending.new.self c.end_pending.ensures))
+
+pub returns-then-header-clause-share : goal.returns-then-header-clause-share
+returns-then-header-clause-share g c =
+    fack-dirty c.args.home.now c.args.line c.requires.line c.end_pending.new.self c.end_pending.ensures c.list_only.new.self c.requester-owner.result c.list_only.ensures.home
+    (c.requester-owner.ensures ∙ ap (λ k. requester_of k.wait) c.header-header.ensures)
+    (ap (λ k. k.dirty) (sym c.header-header.ensures) ∙ c.if-header.true)
+
+pub returns-else-header-clause-share : goal.returns-else-header-clause-share
+returns-else-header-clause-share g c =
+    fack-clean c.args.home.now c.args.line c.requires.line c.end_pending.new.self c.end_pending.ensures c.list_only-else-header.new.self c.list_only-else-header.ensures.home
+    (ap (λ k. k.dirty) (sym c.header-header.ensures) ∙ c.if-header.false)

@@ -1,0 +1,17 @@
+-- The home's copy is gone, and the sender alone is listed.
+use Rattle.std.proofs.Common.{ap, ◌∙◌}
+use Rattle.op_model.specs.Tables.Remote.{is_invalidate}
+use Rattle.dir_header.specs.HomeSides.{header_at}
+use Rattle.node_share.proofs.Homes.{puts-read}
+use Rattle.home_getx.proofs.Gives.{idle-calm, away, gives-copy}
+use Rattle.home_getx.proofs.getx.give_home_copy.Goals as goal
+
+pub list_only-requires-clause-calm : goal.list_only-requires-clause-calm
+list_only-requires-clause-calm g c =
+    ap (λ h. is_invalidate h.wait) (puts-read (away c.args.home.now c.args.cache.now c.args.src c.args.line c.args.out.now c.set_local.new.self c.set_local.ensures))
+    ∙ idle-calm (header_at c.args.home.now c.args.line).wait c.requires.idle
+
+pub returns-clause-row : goal.returns-clause-row
+returns-clause-row g c =
+    gives-copy c.args.home.now c.args.cache.now c.args.src c.args.line c.args.out.now c.requires.line c.set_local.new.self c.list_only.new.self c.drop_line.new.self c.push.new.self c.body-body.result
+    c.set_local.ensures c.list_only.ensures.home c.body-body.ensures.value c.drop_line.ensures.dropped c.push.ensures
