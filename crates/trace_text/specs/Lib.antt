@@ -1,8 +1,8 @@
-pub mod Cut
-pub mod Lines
-pub mod Words
 pub mod Forms
 pub mod Reading
 pub mod Traces
 pub mod Spelling
 pub mod Places
+pub mod Printing
+pub mod Generated
+pub mod CauseNames

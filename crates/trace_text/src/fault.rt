@@ -2,6 +2,7 @@
 
 use std::alloc::{AllocError, AllocFailed};
 use std::fmt;
+use step_journal::StepCause;
 use thiserror::Error;
 
 /// The causes of a bad line, in the order in which they count.
@@ -23,17 +24,21 @@ pub enum TraceCause {
     Unaligned,
     /// The address is past the last word.
     PastEnd,
-    /// The word's line has another home than the operation's node.
-    Remote,
     /// The input has ended before the line `end`.
     NoEnd,
     /// The line stands after the line `end`.
     After,
 }
 
-impl fmt::Display for TraceCause {
-    fn fmt<W: fmt::Write>(&self, f: &mut fmt::Formatter<W>) -> fmt::Result {
-        let name = match self {
+impl TraceCause {
+    ghost use Rattle.std.specs.Prelude.{◌≡◌};
+    ghost use Rattle.trace_text.specs.CauseNames.{cause_name};
+
+    /// The name that is printed.
+    pub fn name(self) -> &'static str
+        ensures { result.now ≡ cause_name self }
+    {
+        match self {
             TraceCause::Shape => "Shape",
             TraceCause::Number => "Number",
             TraceCause::Version => "Version",
@@ -42,11 +47,31 @@ impl fmt::Display for TraceCause {
             TraceCause::Line => "Line",
             TraceCause::Unaligned => "Unaligned",
             TraceCause::PastEnd => "PastEnd",
-            TraceCause::Remote => "Remote",
             TraceCause::NoEnd => "NoEnd",
             TraceCause::After => "After",
-        };
-        f.write_str(name)
+        }
+    }
+}
+
+impl fmt::Display for TraceCause {
+    fn fmt<W: fmt::Write>(&self, f: &mut fmt::Formatter<W>) -> fmt::Result {
+        f.write_str(self.name())
+    }
+}
+
+impl From<StepCause> for TraceCause {
+    ghost use Rattle.std.specs.Prelude.{◌≡◌};
+    ghost use Rattle.trace_text.specs.Reading.{step_cause};
+
+    ghost from_gives = { λ c t. t ≡ step_cause c };
+
+    fn from(cause: StepCause) -> TraceCause {
+        match cause {
+            StepCause::Shape => TraceCause::Shape,
+            StepCause::Number => TraceCause::Number,
+            StepCause::Node => TraceCause::Node,
+            StepCause::Line => TraceCause::Line,
+        }
     }
 }
 
@@ -57,6 +82,8 @@ pub enum TraceError {
     Bad { line: u64, cause: TraceCause },
     #[error("more than 100000 operations")]
     TooManyOps,
+    #[error("more than 1000000 steps")]
+    TooManySteps,
     #[error("no memory")]
     Memory,
 }

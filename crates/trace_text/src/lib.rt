@@ -4,11 +4,14 @@
 mod by_node;
 mod fault;
 mod forms;
-mod lines;
+mod printing;
+mod random;
 mod reading;
 mod trace;
 
 pub use by_node::programs;
 pub use fault::{TraceCause, TraceError};
-pub use reading::read_trace;
+pub use printing::{every_journal_text, print_trace};
+pub use random::generate;
+pub use reading::{MOST_OPS, read_trace};
 pub use trace::Trace;

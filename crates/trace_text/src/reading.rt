@@ -2,19 +2,24 @@
 
 ghost use Rattle.std.specs.Prelude.{◌≡◌, [], Ok, IfOk, IfErr, IsErr, MatchResult, true};
 ghost use Rattle.line_map.specs.Sizes.{in_limits};
-ghost use Rattle.trace_text.specs.Lines.{lines_of, kept};
-ghost use Rattle.trace_text.specs.Words.{line_of};
-ghost use Rattle.trace_text.specs.Reading.{Gives, of_line, next_of, version_of, header_of, sizes_lines, ops_from, nothing_more, trace_in, trace_of};
+ghost use Rattle.text_lines.specs.Lines.{lines_of, kept};
+ghost use Rattle.text_lines.specs.Words.{line_of};
+ghost use Rattle.trace_text.specs.Reading.{Gives, of_line, next_of, version_of, header_of, sizes_lines, ops_from, of_steps as by_steps, steps_of, nothing_more, trace_in, trace_of};
+ghost use Rattle.trace_text.specs.Traces.{IsWithinLimits};
 ghost use Rattle.trace_text.specs.Places.{NamesLine};
 ghost use Rattle.trace_text.specs.Spelling.{IsSpelled};
 
 use crate::fault::{TraceCause, TraceError};
 use crate::forms::{header, operation, version};
-use crate::lines::{Line, Lines};
 use crate::trace::Trace;
-use line_map::{Field, Machine};
-use op_model::Op;
+use line_map::{Field, MOST_NODES, Machine};
+use op_model::{Event, Op};
 use std::alloc::Global;
+use step_journal::{StepError, Stop, read_section};
+use text_lines::{Line, Lines};
+
+/// The greatest number of operations that are read.
+pub const MOST_OPS: usize = 100_000;
 
 /// The next line, which has to come.
 fn next<'a>(lines: &mut Lines<'a>) -> Result<Line<'a>, TraceError>
@@ -90,24 +95,27 @@ fn read_nothing(lines: &mut Lines<'_>) -> Result<(), TraceError>
     }
 }
 
-/// The operations up to the line `end`.
+/// The operations up to the line that ends them, and whether steps follow.
 fn read_ops(
     alloc: Global,
     machine: &Machine,
     version: u32,
     lines: &mut Lines<'_>,
-) -> Result<Vec<Op>, TraceError>
-    ensures { Gives (λ ops. (ops.items, lines.new)) result (ops_from machine.now version [] lines.old.lines lines.old.end) }
+) -> Result<(Vec<Op>, bool), TraceError>
+    ensures { Gives (λ x. ((x.0.items, x.1), lines.new)) result (ops_from machine.now version [] lines.old.lines lines.old.end) }
 {
     let mut ops: Vec<Op> = Vec::new(alloc);
-    let mut counts = [0u32; 64];
+    let mut counts = [0u32; MOST_NODES];
     loop {
         let line = next(lines)?;
         if line.text == b"end".as_slice() {
-            return Ok(ops);
+            return Ok((ops, false));
+        }
+        if line.text == b"steps".as_slice() {
+            return Ok((ops, true));
         }
         let access = at(line.number, operation(machine, version, line.text))?;
-        if ops.len() >= 100_000 {
+        if ops.len() >= MOST_OPS {
             return Err(TraceError::TooManyOps);
         }
         let node = access.node as usize;
@@ -123,24 +131,63 @@ fn read_ops(
     }
 }
 
+/// What a section of steps gives, or its fault.
+fn of_steps<T: Drop>(value: Result<T, StepError>) -> Result<T, TraceError>
+    ensures { result ≡ by_steps value }
+{
+    match value {
+        Ok(value) => Ok(value),
+        Err(StepError::Bad { line, cause }) => Err(TraceError::Bad {
+            line,
+            cause: TraceCause::from(cause),
+        }),
+        Err(StepError::TooMany) => Err(TraceError::TooManySteps),
+        Err(StepError::Memory) => Err(TraceError::Memory),
+    }
+}
+
+/// The steps up to the line `end`, where they follow.
+fn read_steps(
+    alloc: Global,
+    machine: &Machine,
+    follow: bool,
+    lines: &mut Lines<'_>,
+) -> Result<Vec<Event>, TraceError>
+    ensures { Gives (λ v. (v.items, lines.new)) result (steps_of machine.now follow lines.old) }
+{
+    if !follow {
+        return Ok(Vec::new(alloc));
+    }
+    let (steps, stop) = of_steps(read_section(alloc, machine, lines))?;
+    match stop {
+        Stop::End(_) => Ok(steps),
+        Stop::Input(line) => Err(TraceError::Bad {
+            line,
+            cause: TraceCause::NoEnd,
+        }),
+    }
+}
+
 #[tactic(auto, unfolding(crate::specs::Reading::trace_in))]
 fn read_all(alloc: Global, lines: &mut Lines<'_>) -> Result<Trace, TraceError>
     ensures { Gives (λ t. t) result (trace_in lines.old) }
 {
     let version = read_version(lines)?;
     let machine = read_machine(lines)?;
-    let ops = read_ops(alloc, &machine, version, lines)?;
+    let (ops, follow) = read_ops(alloc, &machine, version, lines)?;
+    let steps = read_steps(alloc, &machine, follow, lines)?;
     read_nothing(lines)?;
-    Ok(Trace::of(version, machine, ops))
+    Ok(Trace::of(version, machine, ops, steps))
 }
 
 /// The trace that the bytes spell, or its first bad line with the first cause of that line.
 pub fn read_trace(alloc: Global, bytes: &[u8]) -> Result<Trace, TraceError>
     ensures value { Gives (λ t. t) result (trace_of bytes.now) }
+    ensures limits { IfOk result IsWithinLimits }
     ensures spelled { IfOk result (λ t. IsSpelled (kept 1 (lines_of bytes.now)) t) }
     ensures named { IfErr result (NamesLine bytes.now) }
 {
-    read_all(alloc, &mut Lines::of(bytes))
+    read_all(alloc, &mut Lines::of(bytes, 1))
 }
 
 #[cfg(test)]
