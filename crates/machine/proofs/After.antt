@@ -1,0 +1,213 @@
+-- What the machine keeps, it keeps over an event.
+use Rattle.std.proofs.Common.{◌≡◌, ℕ, zero, suc, ◌+◌, ◌-◌, ◌≤◌, ◌<◌, Bool, true, false, cond, ◌==◌, List, [], ◌∷◌, ◌++◌, length, map, set, drop, refl, ap, arith, sym, subst, ◌∙◌, Some, Ok}
+use Rattle.std.specs.Prelude.{slice_index, is_some, count_by, All}
+use Rattle.std.proofs.lemmas.List.Sums.{count_by-le-length, sum_by-append}
+use Rattle.std.proofs.lemmas.Bool.Decides.{nat_tests}
+use Rattle.line_map.specs.Sizes.{Sizes}
+use Rattle.op_model.specs.declared.events.Event.{Event}
+use Rattle.op_model.specs.declared.messages.Msg.{Msg}
+use Rattle.op_model.specs.declared.operations.Entry.{Entry}
+use Rattle.op_model.specs.Operations.{Words, entry_of}
+use Rattle.op_model.specs.Lines.{Service, NoService, Own, For}
+use Rattle.op_model.specs.Messages.{msg_line}
+use Rattle.op_model.specs.OwnPart.{IsOwnPart}
+use Rattle.op_model.specs.Shares.{Charge, Lanes, Share, want_on, program}
+use Rattle.op_model.specs.Events.Step.{Programs, Done, effect, after, to_lane}
+use Rattle.op_model.specs.Run.Runs.{Past, past_after, start, run_by, entries_of, entry_for}
+use Rattle.op_model.specs.Run.Counts.{Moment, Count, moments, all_counts, counted}
+use Rattle.message_range.specs.Fitting.{IsSentOf}
+use Rattle.own_part.proofs.Runs.{own_run}
+use Rattle.message_range.proofs.Places.{act-placed}
+use Rattle.lane_queues.specs.LaneStates.{LaneState}
+use Rattle.msg_words.specs.SendList.{SendList}
+use Rattle.machine.specs.declared.acts.Act.{Act}
+use Rattle.machine.specs.Kept.{share_or, share_in, state_of, programs_in, charge_in, left_in, AreNodes, moments_in, tally_of, no_sends, AreLanesOf, IsKept}
+use Rattle.machine.specs.Marks.{naks_in, marks_of, marked_up}
+use Rattle.machine.specs.Acts.{sent_from, taken_off, off_of, entries_after, FitsAll, IsRead, IsAct}
+use Rattle.machine.proofs.Faces.{local-at, share_in-set, programs_of-at, programs_in-set, charge_in-set, nodes-set, left-set}
+use Rattle.machine.proofs.Laws.{lane-fits, length-sent, programs-are, traced, machine-trace}
+use Rattle.machine.proofs.Programs.{trace_by, program-of}
+use Rattle.machine.specs.Faces.{Face}
+use Rattle.cpu_cache.specs.Effects.{served_of}
+use Rattle.op_model.specs.Programs.{programs_of}
+use Rattle.machine.proofs.Sent.{sent-in, served-in}
+use Rattle.op_model.proofs.Runs.{moment_of, run-push, moments-push, length-moments}
+
+-- one moment more, for each of a list of counts
+counted-push : (ms : List Moment) (m : Moment) (counts : List Count) → map (counted (ms ++ m ∷ [])) counts ≡ marked_up (map (counted ms) counts) (map (λ c. c.counts m) counts)
+counted-push ms m [] = refl
+counted-push ms m (c ∷ counts) = λ i. one i ∷ counted-push ms m counts i
+  where
+    one : count_by c.counts (ms ++ m ∷ []) ≡ count_by c.counts ms + cond (c.counts m) 1 0
+    one = sum_by-append (λ y. cond (c.counts y) 1 0) ms (m ∷ []) ∙ ap (λ n. count_by c.counts ms + n) (let e : 0 + cond (c.counts m) 1 0 ≡ cond (c.counts m) 1 0 = omega arith in e)
+
+-- a number of a list of numbers, none of which is above this one
+mapped-below : {A : Type 0} (f : A → ℕ) (xs : List A) (n i : ℕ) → ((x : A) → f x ≤ n) → slice_index (map f xs) i ≤ n
+mapped-below f [] n i each = omega arith
+mapped-below f (x ∷ xs) n zero each = each x
+mapped-below f (x ∷ xs) n (suc i) each = mapped-below f xs n i each
+
+-- no count is above the number of events
+pub counts-few : (sizes : Sizes) (faces : List Face) (lanes : LaneState) (events : List Event) (served : List Entry) (tally : List ℕ) (left : ℕ) (out : SendList) → IsKept sizes faces lanes events served tally left out →
+    (i : ℕ) → slice_index tally i ≤ length events
+counts-few sizes faces lanes events served tally left out kept i =
+    let ms = moments_in sizes faces events in
+    let long : length ms ≡ length events = length-moments (charge_in faces) sizes (programs_of (programs_in faces)) (start sizes) (record { state = state_of sizes faces lanes.lane; served = served }) events kept.ran in
+    subst (λ ns. slice_index ns i ≤ length events) (sym kept.tally_is)
+    (mapped-below (counted ms) (all_counts sizes) (length events) i (λ c. let few : counted ms c ≤ length ms = count_by-le-length c.counts ms in omega (arith, few, long)))
+
+module _ (sizes : Sizes) (faces faces' : List Face) (lanes : LaneState) (events : List Event) (served : List Entry) (tally : List ℕ) (left : ℕ) (out : SendList) (event : Event) (sends : List (ℕ × Msg)) (act : Act)
+    (kept : IsKept sizes faces lanes events served tally left out) (is : IsAct (charge_in faces) sizes faces faces' lanes.lane event sends act) where
+  abbrev charge : Charge
+  charge = charge_in faces
+
+  abbrev programs : Programs
+  programs = programs_of (programs_in faces)
+
+  abbrev past : Past
+  past = record { state = state_of sizes faces lanes.lane; served = served }
+
+  abbrev done : Done
+  done = record { node = act.node; out = is.row.out; off = off_of event }
+
+  abbrev next : Past
+  next = past_after sizes past done
+
+  abbrev moved : Lanes
+  moved = sent_from act.node sends (taken_off event lanes.lane)
+
+  abbrev new_face : Face
+  new_face = record is.row.face { share = is.row.out.share }
+
+  traced-does : effect charge sizes (program (trace_by sizes (programs_in faces))) past.state event ≡ Ok done
+  traced-does = subst (λ ps. effect charge sizes ps past.state event ≡ Ok done) (sym (program-of sizes (programs_in faces) (programs-are sizes charge faces kept.nodes))) is.does
+
+  ran-next : run_by charge sizes programs (start sizes) (events ++ event ∷ []) ≡ Some next
+  ran-next = run-push charge sizes programs (start sizes) past events event done kept.ran is.does
+
+  -- what the event sends are messages of the machine, and words for another node are those of a line
+  pub sends-in : All (IsSentOf sizes) sends
+  sends-in =
+      subst (All (IsSentOf sizes)) (sym is.row.sends_are)
+      (sent-in charge (trace_by sizes (programs_in faces)) (machine-trace sizes charge faces kept.nodes) kept.sizes_are events past (traced sizes charge faces kept.nodes events past kept.ran) event done traced-does is.below)
+
+  pub words-in : (reader : ℕ) (on : Words) → is.row.out.served ≡ For reader on → length on ≡ sizes.words
+  words-in = served-in charge (trace_by sizes (programs_in faces)) (machine-trace sizes charge faces kept.nodes) kept.sizes_are events past (traced sizes charge faces kept.nodes events past kept.ran) event done traced-does is.below
+
+  -- no node goes beyond the end of its program
+  placed : is.row.out.share.place ≤ length is.row.face.program
+  placed =
+      let node_is = kept.nodes.each act.node is.row.face is.row.there in
+      let own : IsOwnPart charge sizes act.node (programs act.node) (share_in sizes faces act.node) =
+      subst (λ (ps : Programs). IsOwnPart charge sizes act.node (ps act.node) (share_in sizes faces act.node)) (program-of sizes (programs_in faces) (programs-are sizes charge faces kept.nodes))
+      (own_run charge (trace_by sizes (programs_in faces)) events past act.node (traced sizes charge faces kept.nodes events past kept.ran)) in
+      let does = local-at sizes charge faces act.node is.row.face is.row.there node_is is.input ∙ is.row.does in
+      let program = programs_of-at faces act.node is.row.face is.row.there in
+      let share = ap (share_or sizes act.node) is.row.there in
+      let before : (share_in sizes faces act.node).place ≤ length (programs act.node) =
+      (let p : length (programs act.node) ≡ length is.row.face.program = ap length program in let q : (share_in sizes faces act.node).place ≡ is.row.face.share.place = ap (λ (s : Share). s.place) share in omega (arith, p, q, node_is.placed)) in
+      subst (λ ops. is.row.out.share.place ≤ length ops) program (act-placed charge sizes act.node (programs act.node) (share_in sizes faces act.node) is.input is.row.out own before does)
+
+  -- what the event sends fits its lanes
+  pub sends-fit : FitsAll (record lanes { lane = taken_off event lanes.lane }) act.node sends
+  sends-fit dst class =
+      let bound = lane-fits sizes charge faces lanes kept.sizes_are kept.nodes kept.lanes_are (events ++ event ∷ []) next ran-next act.node dst class in
+      let front = taken_off event lanes.lane act.node dst class in
+      let long : length (next.state.lane act.node dst class) ≡ length front + length (to_lane dst class sends) =
+      length-sent front act.node dst class is.row.out.sends ∙ ap (λ xs. length front + length (to_lane dst class xs)) (sym is.row.sends_are) in
+      omega (arith, bound, long)
+
+  same-programs : programs_in faces' ≡ programs_in faces
+  same-programs = ap programs_in is.row.after ∙ programs_in-set faces act.node is.row.face new_face is.row.there refl
+
+  same-charge : charge_in faces' ≡ charge
+  same-charge = ap charge_in is.row.after ∙ charge_in-set faces act.node is.row.face new_face is.row.there refl
+
+  pub programs-kept : programs_in faces' ≡ programs_in faces
+  programs-kept = same-programs
+
+  pub charge-kept : charge_in faces' ≡ charge_in faces
+  charge-kept = same-charge
+
+  share-after : (q : ℕ) → share_in sizes faces' q ≡ cond (q == act.node) is.row.out.share (share_in sizes faces q)
+  share-after q = ap (λ fs. share_in sizes fs q) is.row.after ∙ share_in-set sizes faces act.node is.row.face new_face is.row.there q
+
+  state-after : after past.state done ≡ state_of sizes faces' moved
+  state-after = λ i. record { share = λ q. sym (share-after q) i; lane = λ a b class. drop (off_of event a b class) (lanes.lane a b class) ++ cond (a == act.node) (to_lane b class (sym is.row.sends_are i)) [] }
+
+  place-before : past.state.share act.node ≡ is.row.face.share
+  place-before = ap (share_or sizes act.node) is.row.there
+
+  -- a node that is sent words stands where it stood, and wants what it wanted
+  spot : IsRead is.row.face is.row.out act.taken → (q : ℕ) → (share_in sizes faces' q).place ≡ (share_in sizes faces q).place
+  spot read q = ap (λ (s : Share). s.place) (share-after q) ∙ at-node (q == act.node) refl
+    where
+      at-node : (b : Bool) → (q == act.node) ≡ b → (cond b is.row.out.share (share_in sizes faces q)).place ≡ (share_in sizes faces q).place
+      at-node true test = let here : act.node ≡ q = grind (arith, nat_tests) in read.place ∙ ap (λ (s : Share). s.place) (sym place-before) ∙ ap (λ n. (share_in sizes faces n).place) here
+      at-node false test = refl
+
+  wish : IsRead is.row.face is.row.out act.taken → (q : ℕ) → (share_in sizes faces' q).want ≡ (share_in sizes faces q).want
+  wish read q = ap (λ (s : Share). s.want) (share-after q) ∙ at-node (q == act.node) refl
+    where
+      at-node : (b : Bool) → (q == act.node) ≡ b → (cond b is.row.out.share (share_in sizes faces q)).want ≡ (share_in sizes faces q).want
+      at-node true test = let here : act.node ≡ q = grind (arith, nat_tests) in read.want ∙ ap (λ (s : Share). s.want) (sym place-before) ∙ ap (λ n. (share_in sizes faces n).want) here
+      at-node false test = refl
+
+  -- what was served, read after the event
+  served-after : entries_after sizes faces' act.taken act.effect.served ≡ entries_of sizes past.state act.node is.row.out.line is.row.out.served
+  served-after = ap (entries_after sizes faces' act.taken) is.row.served ∙ go is.row.out.served refl
+    where
+      go : (s : Service) → is.row.out.served ≡ s → entries_after sizes faces' act.taken (served_of act.node is.row.face.share.place s) ≡ entries_of sizes past.state act.node is.row.out.line s
+      go NoService at = refl
+      go (Own op on) at = ap (λ (s : Share). entry_of act.node s.place op on ∷ []) (sym place-before)
+      go (For reader on) at =
+          let read = is.reads reader on at in
+          let same : (share_in sizes faces' reader).place ≡ (share_in sizes faces reader).place = spot read reader in
+          let wants : (share_in sizes faces' reader).want ≡ (share_in sizes faces reader).want = wish read reader in
+          ap (λ t. entries_after sizes faces' t (served_of act.node is.row.face.share.place (For reader on))) read.taken_is
+          ∙ (λ i. entry_for reader (same i) on (want_on sizes (wants i) (msg_line read.m)))
+          ∙ ap (λ l. entry_for reader (share_in sizes faces reader).place on (want_on sizes (share_in sizes faces reader).want l)) (sym read.line)
+
+  -- by which counts the event is counted
+  abbrev made_marks : List Bool
+  made_marks = marks_of event act.taken (is_some act.effect.done) (naks_in sends) act.marked
+
+  marks-after : map (λ c. c.counts (moment_of past.state event done)) (all_counts sizes) ≡ made_marks
+  marks-after =
+      let a = is.taken_is in
+      let b = is.row.is_done in
+      let c = is.row.sends_are in
+      let d = is.marked_is in
+      sym (λ i. marks_of event (a i) (b i) (naks_in (c i)) (d i))
+
+  tally-after : tally_of sizes (moments_in sizes faces' (events ++ event ∷ [])) ≡ marked_up tally made_marks
+  tally-after =
+      (λ i. tally_of sizes (moments (same-charge i) sizes (programs_of (same-programs i)) (start sizes).state (events ++ event ∷ [])))
+      ∙ ap (tally_of sizes) (moments-push charge sizes programs (start sizes) past events event done kept.ran is.does)
+      ∙ counted-push (moments_in sizes faces events) (moment_of past.state event done) (all_counts sizes)
+      ∙ (λ i. marked_up (sym kept.tally_is i) (marks-after i))
+
+  left-after : left_in faces' + cond (is_some act.effect.done) 1 0 ≡ left
+  left-after =
+      ap (λ fs. left_in fs + cond (is_some act.effect.done) 1 0) is.row.after ∙ ap (λ d. left_in (set faces act.node new_face) + cond d 1 0) is.row.is_done
+      ∙ left-set faces act.node is.row.face is.row.out.share is.row.out.done is.row.there placed is.place ∙ sym kept.left_is
+
+  -- an operation that is done was left
+  pub some-left : is_some act.effect.done ≡ true → 0 < left
+  some-left finished = let all = left-after in let one : ◌≡◌ {A = ℕ} (cond (is_some act.effect.done) 1 0) 1 = ap (λ b. cond b 1 0) finished in omega (arith, all, one)
+
+  pub kept-after : (lanes' : LaneState) (events' : List Event) (served' : List Entry) (tally' : List ℕ) (left' : ℕ) (out' : SendList) → lanes' ≡ record lanes { lane = moved } → events' ≡ events ++ event ∷ [] →
+      served' ≡ served ++ entries_after sizes faces' act.taken act.effect.served → tally' ≡ marked_up tally made_marks → left' ≡ left - cond (is_some act.effect.done) 1 0 → out' ≡ no_sends sizes →
+      IsKept sizes faces' lanes' events' served' tally' left' out'
+  kept-after lanes' events' served' tally' left' out' lanes_is events_is served_is tally_is left_is out_is = record {
+    sizes_are = kept.sizes_are;
+    nodes = subst (λ ch. AreNodes sizes ch faces') (sym same-charge) (subst (AreNodes sizes charge) (sym is.row.after) (nodes-set sizes charge faces act.node is.row.face is.row.out.share kept.nodes is.row.there placed));
+    lanes_are = subst (AreLanesOf sizes) (sym lanes_is) (record { same_sizes = kept.lanes_are.same_sizes; requests = kept.lanes_are.requests; replies = kept.lanes_are.replies });
+    ran =
+        (λ i. run_by (same-charge i) sizes (programs_of (same-programs i)) (start sizes) (events_is i)) ∙ ran-next
+        ∙ (λ i. Some (record { state = state-after i; served = served ++ sym served-after i }))
+        ∙ (λ i. Some (record { state = state_of sizes faces' ((sym lanes_is i).lane); served = sym served_is i }));
+    tally_is = tally_is ∙ sym tally-after ∙ ap (λ es. tally_of sizes (moments_in sizes faces' es)) (sym events_is);
+    left_is = let all = left-after in omega (arith, all, left_is);
+    nothing_sent = out_is;
+  }

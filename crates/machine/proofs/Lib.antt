@@ -1,0 +1,16 @@
+pub mod Tallies
+pub mod Sendings
+pub mod Faces
+pub mod Doing
+pub mod Services
+pub mod Events
+pub mod Lists
+pub mod Programs
+pub mod Laws
+pub mod Sent
+pub mod After
+pub mod Kept
+pub mod Starts
+pub mod Views
+pub mod Others
+pub mod Drives

@@ -1,0 +1,14 @@
+-- The counts are kept in their order.
+use Rattle.std.proofs.Common.{map}
+use Rattle.machine.specs.Faces.{face_of, dir_of}
+use Rattle.machine.proofs.Views.{view-count}
+use Rattle.machine.proofs.machine.Machine1.count.Goals as goal
+
+pub returns : goal.returns
+returns g c =
+    let run = c.self.inside.run in
+    let faces = map (face_of {D = g.row.D.Denot}) run.nodes.items in
+    let lanes = g.Q.Lanes.meaning run.lanes in
+    let dirs = map (dir_of {D = g.row.D.Denot}) run.nodes.items in
+    let journal = run.journal in
+    λ count at. view-count run.cfg faces lanes journal.events.items journal.served.items journal.counts journal.left run.out dirs c.args.self.now c.self.invariant c.self.view_is c.args.i count at

@@ -1,0 +1,117 @@
+-- What an event did at its node, and how the messages go their ways.
+use Rattle.std.specs.Prelude.{◌≡◌, ℕ, suc, ◌+◌, ◌≤◌, ◌<◌, ◌==◌, Bool, true, false, if◌then◌else◌, not, ◌&&◌, List, [], ◌∷◌, ◌++◌, length, drop, set, slice_get, is_some, Option, Some, None, Result, Ok, Err}
+use Rattle.line_map.specs.Sizes.{Sizes, home_of}
+use Rattle.op_model.specs.declared.events.Cause.{Cause}
+use Rattle.op_model.specs.declared.events.Class.{Class}
+use Rattle.op_model.specs.declared.events.Event.{Event}
+use Rattle.op_model.specs.declared.events.Event.TheVariants.{Take}
+use Rattle.op_model.specs.declared.messages.Msg.{Msg}
+use Rattle.op_model.specs.declared.operations.Entry.{Entry}
+use Rattle.op_model.specs.declared.state.Want.{Want}
+use Rattle.op_model.specs.Messages.{msg_line, msg_content}
+use Rattle.op_model.specs.Lines.{For}
+use Rattle.op_model.specs.Operations.{Words}
+use Rattle.op_model.specs.Shares.{Charge, Lanes, want_on}
+use Rattle.op_model.specs.Events.Node.{Input, NodeOutcome, meets_row, local, permit}
+use Rattle.op_model.specs.Events.Step.{Off, none_off, one_off, to_lane, effect}
+use Rattle.op_model.specs.Run.Counts.{taken_by, takes_marked, is_kind, APut, is_marked}
+use Rattle.op_model.specs.Run.Runs.{entry_for}
+use Rattle.cpu_cache.specs.declared.effects.Effect.{Effect}
+use Rattle.cpu_cache.specs.declared.effects.Served.{Served}
+use Rattle.cpu_cache.specs.declared.effects.Served.TheVariants as served
+use Rattle.lane_queues.specs.LaneStates.{LaneState, capacity_of}
+use Rattle.machine.specs.declared.acts.Act.{Act}
+use Rattle.machine.specs.Faces.{Face, outcome_at}
+use Rattle.cpu_cache.specs.Effects.{served_of}
+use Rattle.op_model.specs.Programs.{programs_of}
+use Rattle.machine.specs.Kept.{programs_in, share_in, state_of}
+
+-- lanes after a node's messages have come to their ends
+abbrev pub sent_from : ℕ → List (ℕ × Msg) → Lanes → Lanes
+sent_from node sends lane a b class = lane a b class ++ (if a == node then to_lane b class sends else [])
+
+-- how many messages an event takes from the front of each lane, and the lanes without them
+abbrev pub off_of : Event → Off
+off_of (Take src dst class victim) = one_off src dst class
+off_of _ = none_off
+
+abbrev pub taken_off : Event → Lanes → Lanes
+taken_off event lane a b class = drop (off_of event a b class) (lane a b class)
+
+-- all messages fit behind what a node's lanes hold
+abbrev pub FitsAll : LaneState → ℕ → List (ℕ × Msg) → Type 0
+FitsAll state node sends = (dst : ℕ) (class : Class) → length (state.lane node dst class) + length (to_lane dst class sends) ≤ capacity_of state class
+
+-- the entries of a call's answer
+abbrev pub entry_list : Option Entry → List Entry
+entry_list None = []
+entry_list (Some entry) = entry ∷ []
+
+-- the entries of what an event served, read from the nodes after it. A load of another node is on the line of the message that was taken
+abbrev pub entries_after : Sizes → List Face → Option Msg → Served → List Entry
+entries_after sizes faces taken served.Nothing = []
+entries_after sizes faces taken (served.Own entry) = entry ∷ []
+entries_after sizes faces None (served.LoadBy node on) = []
+entries_after sizes faces (Some m) (served.LoadBy node on) = entry_for node (share_in sizes faces node).place on (want_on sizes (share_in sizes faces node).want (msg_line m))
+
+-- One of the nodes did its row for an input: its share is the row's, and this is sent
+pub record IsDoneAt (sizes : Sizes) (faces faces' : List Face) (node : ℕ) (input : Input) (sends : List (ℕ × Msg)) (effect : Effect) : Type 0 where
+  pub face : Face
+  pub there : slice_get faces node ≡ Some face
+  pub out : NodeOutcome
+  pub does : outcome_at face input ≡ Ok out
+  pub after : faces' ≡ set faces node (record face { share = out.share })
+  pub sends_are : sends ≡ out.sends
+  pub served : effect.served ≡ served_of node face.share.place out.served
+  pub is_done : is_some effect.done ≡ out.done
+
+-- or refused it for this cause
+pub record IsRefusedAt (faces : List Face) (node : ℕ) (input : Input) (cause : Cause) : Type 0 where
+  pub face : Face
+  pub there : slice_get faces node ≡ Some face
+  pub refuses : outcome_at face input ≡ Err cause
+
+-- one of the nodes did its row for an input of its own
+pub record IsAlone (sizes : Sizes) (faces faces' : List Face) (node : ℕ) (input : Input) (sends : List (ℕ × Msg)) (act : Act) : Type 0 where
+  pub node_is : act.node ≡ node
+  pub row : IsDoneAt sizes faces faces' act.node input sends act.effect
+  pub takes_nothing : act.taken ≡ None
+  pub not_marked : act.marked ≡ false
+
+-- the first message of a lane meets a row at its taker
+pub record AreFrontsMet (sizes : Sizes) (faces : List Face) (lane : Lanes) : Type 0 where
+  pub meets : (src dst : ℕ) (class : Class) (m : Msg) (rest : List Msg) → lane src dst class ≡ m ∷ rest → meets_row sizes dst (share_in sizes faces dst) src m ≡ true
+
+-- the Put of a load that was marked, elsewhere than at the line's home
+abbrev pub is_marked_put : Sizes → ℕ → Option Want → Msg → Bool
+is_marked_put sizes dst want m = is_kind APut (msg_content m) && not (dst == home_of sizes (msg_line m)) && is_marked (want_on sizes want (msg_line m))
+
+-- a load of another node is on the line of the message that was taken, and its words leave what their sender does as it was
+pub record IsRead (old : Face) (out : NodeOutcome) (taken : Option Msg) : Type 0 where
+  pub m : Msg
+  pub taken_is : taken ≡ Some m
+  pub line : out.line ≡ msg_line m
+  pub place : out.share.place ≡ old.share.place
+  pub want : out.share.want ≡ old.share.want
+
+-- What an event did: its row at its node, the message that it took, and whether that was the Put of a marked load
+pub record IsAct (charge : Charge) (sizes : Sizes) (faces faces' : List Face) (lane : Lanes) (event : Event) (sends : List (ℕ × Msg)) (act : Act) : Type 0 where
+  pub input : Input
+  pub row : IsDoneAt sizes faces faces' act.node input sends act.effect
+  pub does : effect charge sizes (programs_of (programs_in faces)) (state_of sizes faces lane) event ≡ Ok (record { node = act.node; out = row.out; off = off_of event })
+  pub below : act.node < sizes.nodes
+  pub place : row.out.share.place ≡ (if row.out.done then suc row.face.share.place else row.face.share.place)
+  pub taken_is : act.taken ≡ taken_by (state_of sizes faces lane) event
+  pub marked_is : act.marked ≡ takes_marked sizes (state_of sizes faces lane) event (taken_by (state_of sizes faces lane) event)
+  pub reads : (reader : ℕ) (on : Words) → row.out.served ≡ For reader on → IsRead row.face row.out act.taken
+
+-- an event is refused for this cause
+abbrev pub IsRefusedIn : Charge → Sizes → List Face → Lanes → Event → Cause → Type 0
+IsRefusedIn charge sizes faces lane event cause = effect charge sizes (programs_of (programs_in faces)) (state_of sizes faces lane) event ≡ Err cause
+
+-- whether a node of the machine would do its row for an input, and whether an event would be made
+abbrev pub permit_at : Charge → Sizes → List Face → ℕ → Input → Result (Unit {0}) Cause
+permit_at charge sizes faces node input = permit (local charge sizes node (programs_of (programs_in faces) node) (share_in sizes faces node) input)
+
+abbrev pub IsPermitIn : Charge → Sizes → List Face → Lanes → Event → Result (Unit {0}) Cause → Type 0
+IsPermitIn charge sizes faces lane event result = result ≡ permit (effect charge sizes (programs_of (programs_in faces)) (state_of sizes faces lane) event)

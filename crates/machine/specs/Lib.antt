@@ -1,0 +1,11 @@
+pub mod Faces
+pub mod Machines
+pub mod Kept
+pub mod Marks
+pub mod Acts
+pub mod Journals
+pub mod Answers
+pub mod Starts
+pub mod Views
+pub mod Reads
+pub mod Driven

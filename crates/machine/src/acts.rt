@@ -1,0 +1,197 @@
+//! What an event does at its node.
+
+ghost use Rattle.std.specs.Prelude.{◌≡◌, ◌<◌, map, true, IfOk, IfErr, OnErr};
+ghost use Rattle.op_model.specs.MessageWords.{IsMsgOf};
+ghost use Rattle.op_model.specs.Events.Node.{TakeFrom, meets_row};
+ghost use Rattle.machine.specs.Kept.{AreNodes, AreLanesOf, charge_in, no_sends, share_in};
+ghost use Rattle.magic_node.specs.Nodes.{FitsEvent, input_of};
+ghost use Rattle.op_model.specs.Run.Machines.{IsEventOf};
+ghost use Rattle.machine.specs.Faces.{face_of};
+ghost use Rattle.machine.specs.Acts.{IsDoneAt, IsRefusedAt, IsAlone, IsAct, IsRefusedIn, AreFrontsMet, is_marked_put};
+
+use cpu_cache::Effect;
+use dir_header::Sharers;
+use lane_queues::Lanes;
+use line_map::Machine;
+use magic_node::{LocalEvent, MagicNode};
+use msg_words::Sends;
+use op_model::{Cause, Class, Event, Msg, Want};
+
+/// What an event did: at which node and with which effect, which message it took, and whether that was the Put of a marked load.
+#[derive(Clone, Copy)]
+pub(crate) struct Act {
+    pub(crate) node: u32,
+    pub(crate) effect: Effect,
+    pub(crate) taken: Option<Msg>,
+    pub(crate) marked: bool,
+}
+
+// A node does an event of its own.
+fn do_alone<D: Sharers>(
+    cfg: Machine,
+    nodes: &mut Vec<MagicNode<D>>,
+    out: &mut Sends,
+    node: u32,
+    event: LocalEvent,
+    room: bool,
+) -> Result<Effect, Cause>
+    requires nodes { AreNodes cfg (charge_in (map face_of nodes.old.items)) (map face_of nodes.old.items) }
+    requires below { node < cfg.nodes }
+    requires line { FitsEvent cfg node event }
+    requires nothing { out.old ≡ no_sends cfg }
+    ensures ok { IfOk result (λ effect. IsDoneAt cfg (map face_of nodes.old.items) (map face_of nodes.new.items) node (input_of event room) out.new.list effect) }
+    ensures err { IfErr result (λ cause. IsRefusedAt (map face_of nodes.old.items) node (input_of event room) cause) }
+    ensures room { out.new.room ≡ out.old.room }
+    ensures same { OnErr result ((nodes.new.items ≡ nodes.old.items) × (out.new ≡ out.old)) }
+{
+    let node = &mut nodes[node as usize];
+    let _kept = node.number();
+    node.local(event, room, out)
+}
+
+// A node takes a message and does its row.
+fn do_take<D: Sharers>(
+    cfg: Machine,
+    nodes: &mut Vec<MagicNode<D>>,
+    out: &mut Sends,
+    src: u32,
+    dst: u32,
+    msg: &Msg,
+    victim: Option<u32>,
+) -> Result<Effect, Cause>
+    requires nodes { AreNodes cfg (charge_in (map face_of nodes.old.items)) (map face_of nodes.old.items) }
+    requires from { src < cfg.nodes }
+    requires to { dst < cfg.nodes }
+    requires message { IsMsgOf cfg msg.now }
+    requires row { meets_row cfg dst (share_in cfg (map face_of nodes.old.items) dst) src msg.now ≡ true }
+    requires nothing { out.old ≡ no_sends cfg }
+    ensures ok { IfOk result (λ effect. IsDoneAt cfg (map face_of nodes.old.items) (map face_of nodes.new.items) dst (TakeFrom src msg.now victim) out.new.list effect) }
+    ensures err { IfErr result (λ cause. IsRefusedAt (map face_of nodes.old.items) dst (TakeFrom src msg.now victim) cause) }
+    ensures room { out.new.room ≡ out.old.room }
+    ensures same { OnErr result ((nodes.new.items ≡ nodes.old.items) × (out.new ≡ out.old)) }
+{
+    let node = &mut nodes[dst as usize];
+    let _kept = node.number();
+    node.take(src, msg, victim, out)
+}
+
+// Whether a message is the Put of a load that was marked, elsewhere than at the line's home.
+fn is_marked_load(cfg: &Machine, dst: u32, want: Option<Want>, msg: &Msg) -> bool
+    requires { IsMsgOf cfg.now msg.now }
+    ensures { result ≡ is_marked_put cfg.now dst want msg.now }
+{
+    let Msg::Put { line, .. } = *msg else {
+        return false;
+    };
+    let Some(want) = want else {
+        return false;
+    };
+    dst != cfg.home_of(line) && want.op.word / cfg.words() == line && want.marked
+}
+
+// A node's own event, as an event of the machine.
+fn act_alone<D: Sharers>(
+    cfg: Machine,
+    nodes: &mut Vec<MagicNode<D>>,
+    out: &mut Sends,
+    node: u32,
+    event: LocalEvent,
+    room: bool,
+) -> Result<Act, Cause>
+    requires nodes { AreNodes cfg (charge_in (map face_of nodes.old.items)) (map face_of nodes.old.items) }
+    requires below { node < cfg.nodes }
+    requires line { FitsEvent cfg node event }
+    requires nothing { out.old ≡ no_sends cfg }
+    ensures ok { IfOk result (λ act. IsAlone cfg (map face_of nodes.old.items) (map face_of nodes.new.items) node (input_of event room) out.new.list act) }
+    ensures err { IfErr result (λ cause. IsRefusedAt (map face_of nodes.old.items) node (input_of event room) cause) }
+    ensures room { out.new.room ≡ out.old.room }
+    ensures same { OnErr result ((nodes.new.items ≡ nodes.old.items) × (out.new ≡ out.old)) }
+{
+    let effect = do_alone(cfg, nodes, out, node, event, room)?;
+    Ok(Act {
+        node,
+        effect,
+        taken: None,
+        marked: false,
+    })
+}
+
+// The first message of a lane, which its taker handles. It stays in the lane for now.
+fn act_on_message<D: Sharers, Q: Lanes>(
+    cfg: Machine,
+    nodes: &mut Vec<MagicNode<D>>,
+    lanes: &Q,
+    out: &mut Sends,
+    src: u32,
+    dst: u32,
+    class: Class,
+    victim: Option<u32>,
+) -> Result<Act, Cause>
+    requires nodes { AreNodes cfg (charge_in (map face_of nodes.old.items)) (map face_of nodes.old.items) }
+    requires lanes { AreLanesOf cfg (Q.meaning lanes.now) }
+    requires from { src < cfg.nodes }
+    requires to { dst < cfg.nodes }
+    requires nothing { out.old ≡ no_sends cfg }
+    requires fronts { AreFrontsMet cfg (map face_of nodes.old.items) (Q.meaning lanes.now).lane }
+    ensures ok { IfOk result (λ act. IsAct (charge_in (map face_of nodes.old.items)) cfg (map face_of nodes.old.items) (map face_of nodes.new.items) (Q.meaning lanes.now).lane (Event.Take src dst class victim) out.new.list act) }
+    ensures err { IfErr result (λ cause. IsRefusedIn (charge_in (map face_of nodes.old.items)) cfg (map face_of nodes.old.items) (Q.meaning lanes.now).lane (Event.Take src dst class victim) cause) }
+    ensures room { out.new.room ≡ out.old.room }
+    ensures same { OnErr result ((nodes.new.items ≡ nodes.old.items) × (out.new ≡ out.old)) }
+{
+    let Some(msg) = lanes.front(src, dst, class) else {
+        return Err(Cause::LaneEmpty);
+    };
+    let marked = is_marked_load(&cfg, dst, nodes[dst as usize].proc().want(), &msg);
+    let effect = do_take(cfg, nodes, out, src, dst, &msg, victim)?;
+    Ok(Act {
+        node: dst,
+        effect,
+        taken: Some(msg),
+        marked,
+    })
+}
+
+/// The node of an event does it. Messages stay where they are for now.
+pub(crate) fn do_event<D: Sharers, Q: Lanes>(
+    cfg: Machine,
+    nodes: &mut Vec<MagicNode<D>>,
+    lanes: &Q,
+    out: &mut Sends,
+    event: Event,
+) -> Result<Act, Cause>
+    requires nodes { AreNodes cfg (charge_in (map face_of nodes.old.items)) (map face_of nodes.old.items) }
+    requires lanes { AreLanesOf cfg (Q.meaning lanes.now) }
+    requires of_machine { IsEventOf cfg event }
+    requires nothing { out.old ≡ no_sends cfg }
+    requires fronts { AreFrontsMet cfg (map face_of nodes.old.items) (Q.meaning lanes.now).lane }
+    ensures ok { IfOk result (λ act. IsAct (charge_in (map face_of nodes.old.items)) cfg (map face_of nodes.old.items) (map face_of nodes.new.items) (Q.meaning lanes.now).lane event out.new.list act) }
+    ensures err { IfErr result (λ cause. IsRefusedIn (charge_in (map face_of nodes.old.items)) cfg (map face_of nodes.old.items) (Q.meaning lanes.now).lane event cause) }
+    ensures room { out.new.room ≡ out.old.room }
+    ensures same { OnErr result ((nodes.new.items ≡ nodes.old.items) × (out.new ≡ out.old)) }
+{
+    match event {
+        Event::Hit { node } => act_alone(cfg, nodes, out, node, LocalEvent::Hit, true),
+        Event::Issue { node } => act_alone(cfg, nodes, out, node, LocalEvent::Issue, true),
+        Event::Evict { node, line, kind } => {
+            let room = lanes.evictions(node, cfg.home_of(line)) < cfg.evicts();
+            act_alone(
+                cfg,
+                nodes,
+                out,
+                node,
+                LocalEvent::Evict { line, kind },
+                room,
+            )
+        }
+        Event::Take {
+            src,
+            dst,
+            class,
+            victim,
+        } => act_on_message(cfg, nodes, lanes, out, src, dst, class, victim),
+        Event::Reclaim { line } => {
+            let home = cfg.home_of(line);
+            act_alone(cfg, nodes, out, home, LocalEvent::Reclaim { line }, true)
+        }
+    }
+}
