@@ -2,12 +2,13 @@
 
 ghost use Rattle.std.specs.Prelude.{◌≡◌};
 
+use op_model::Cause;
 use trace_text::TraceCause;
 
 /// How a command ended. Its text is what is written to the error sink.
 #[derive(Clone, Copy, Debug, PartialEq, Eq)]
 pub enum Status {
-    /// The report was written.
+    /// The command's text was written.
     Done,
     /// The words are no form of a command. Nothing was read.
     Usage,
@@ -17,12 +18,16 @@ pub enum Status {
     TooLong,
     /// A good operation line is the 100,001st.
     TooManyOps,
+    /// A good step line is the 1,000,001st.
+    TooManySteps,
     /// A read failed.
     ReadFault,
-    /// A write failed. A part of the report was written, from its beginning.
+    /// A write failed. A part of the text was written, from its beginning.
     WriteFault,
     /// Want of memory.
     Memory,
+    /// A step of the trace isn't enabled, for its first cause. Steps count from 1.
+    NotEnabled { step: u64, cause: Cause },
 }
 
 impl Status {
@@ -35,10 +40,12 @@ impl Status {
         match self {
             Status::Done => 0,
             Status::Usage => 1,
-            Status::BadTrace { .. } | Status::TooLong | Status::TooManyOps => 2,
+            Status::BadTrace { .. } | Status::TooLong | Status::TooManyOps | Status::TooManySteps =>
+                2,
             Status::ReadFault => 3,
             Status::WriteFault => 4,
             Status::Memory => 5,
+            Status::NotEnabled { .. } => 6,
         }
     }
 }

@@ -1,0 +1,12 @@
+-- So many steps are made as the loop has seen, and they run.
+use Rattle.std.proofs.Common.{◌≡◌, take}
+use Rattle.op_model.specs.Run.Machines.{IsRunning}
+use Rattle.commands.specs.Steps.{HasMade}
+use Rattle.commands.proofs.replaying.replay.Given as goal
+
+abbrev pub invariant-loop-step : goal.invariant-loop-step
+invariant-loop-step g l = record {
+  counted : l.made ≡ l.step-index;
+  made : HasMade (g.M.MachineFace.meaning l.initial.m) (take l.step-index l.steps) (g.M.MachineFace.meaning l.m);
+  running : IsRunning (g.M.MachineFace.meaning l.m);
+}
