@@ -1,0 +1,59 @@
+#!/usr/bin/env python3
+"""Traces for the benchmark, each from its sizes and a seed, the same every time.
+
+usage: traces.py shared NODES OPS LINKS      loads and writes of all nodes, mostly on a few lines that all share
+       traces.py home OPS NODES LINES WORDS SETS   each node on its own memory
+       traces.py steps STEPS                 a section of steps, each enabled: a node loads a line of another and gives it back
+       traces.py comments BYTES              comments alone, and the smallest trace
+"""
+import random
+import sys
+
+
+def header(nodes, lines, words, links, sets, pending=16, evicts=4):
+    return f"flash 1\nnodes {nodes}\nlines {lines}\nwords {words}\nlinks {links}\nsets {sets}\npending {pending}\nevicts {evicts}\n"
+
+
+def shared(nodes, count, links):
+    chance = random.Random(1)
+    lines, words, sets = 64, 4, 64
+    out = [header(nodes, lines, words, links, sets)]
+    for _ in range(count):
+        node = chance.randrange(nodes)
+        line = chance.randrange(32) if chance.random() < 0.7 else chance.randrange(nodes * lines)
+        address = (line * words + chance.randrange(words)) * 8
+        out.append(f"{node} S {address:#x} {chance.randrange(1000)}\n" if chance.random() < 0.25 else f"{node} L {address:#x}\n")
+    return "".join(out) + "end\n"
+
+
+def home(count, nodes, lines, words, sets):
+    chance = random.Random(1)
+    out = [header(nodes, lines, words, 62, sets)]
+    for _ in range(count):
+        node = chance.randrange(nodes)
+        address = ((node * lines + chance.randrange(lines)) * words + chance.randrange(words)) * 8
+        out.append(f"{node} S {address:#x} {chance.randrange(1000)}\n" if chance.random() < 0.5 else f"{node} L {address:#x}\n")
+    return "".join(out) + "end\n"
+
+
+def steps(count):
+    # One round has five events: a load from afar, a hint, and its taking.
+    rounds = count // 5
+    out = [header(2, 2, 1, 1, 1, 1, 1)]
+    out += ["1 L 0x0\n"] * min(rounds, 100000) + ["steps\n"]
+    out += ["i 1\nt 1 0 q -\nt 0 1 r -\ne 1 0 hint\nt 1 0 q -\n"] * min(rounds, 100000)
+    return "".join(out) + "end\n"
+
+
+def comments(size):
+    line = "# " + "x" * 60 + "\n"
+    rest = header(2, 1, 1, 1, 1, 1, 1) + "end\n"
+    return line * ((size - len(rest)) // len(line)) + rest
+
+
+KINDS = {"shared": shared, "home": home, "steps": steps, "comments": comments}
+
+if __name__ == "__main__":
+    if len(sys.argv) < 3 or sys.argv[1] not in KINDS:
+        sys.exit(__doc__)
+    sys.stdout.write(KINDS[sys.argv[1]](*[int(word) for word in sys.argv[2:]]))
