@@ -1,8 +1,0 @@
-use Rattle.std.proofs.Common.{◌≡◌, ◌≤◌, Some}
-use Rattle.op_model.specs.Run.Runs.{Past}
-use Rattle.home_machine.specs.HomeRuns.{run_of}
-use Rattle.dir_report.specs.Sections.{count_below}
-use Rattle.dir_report.proofs.lines.count_listed.Given as goal
-
-abbrev pub invariant-loop-g : goal.invariant-loop-g
-invariant-loop-g l = (l.count ≤ l.g) × ((past : Past) → run_of l.m ≡ Some past → l.count ≡ count_below l.m.sizes past.state l.g)

@@ -1,5 +1,0 @@
-pub mod Headers
-pub mod Rows
-pub mod Sets
-pub mod Kept
-pub mod Calls

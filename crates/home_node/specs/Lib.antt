@@ -1,3 +1,0 @@
-pub mod HomeNodes
-pub mod HomeMemory
-pub mod Codes
