@@ -61,7 +61,7 @@ def main():
         show(f"serial, home lines, {count} operations", "serial", traces.home(count, 16, 1024, 4, 256), runs)
     for count in (25000, 50000, 100000):
         show(f"gen {count} 1", f"gen {count} 1", "", runs)
-    for count in (125000, 250000, 500000):
+    for count in (250000, 500000, 1000000):
         show(f"replay, {count} steps", "replay", traces.steps(count), runs)
     for count in (5000, 10000, 20000):
         show(f"seeded 1, 16 nodes, {count} operations", "seeded 1", traces.shared(16, count, 2048), runs)

@@ -37,11 +37,14 @@ def home(count, nodes, lines, words, sets):
 
 
 def steps(count):
-    # One round has five events: a load from afar, a hint, and its taking.
-    rounds = count // 5
-    out = [header(2, 2, 1, 1, 1, 1, 1)]
-    out += ["1 L 0x0\n"] * min(rounds, 100000) + ["steps\n"]
-    out += ["i 1\nt 1 0 q -\nt 0 1 r -\ne 1 0 hint\nt 1 0 q -\n"] * min(rounds, 100000)
+    """Rounds of five steps, a load from afar, a hint and its taking; what is left of the steps asks again and again for a line that is pending."""
+    rounds = min(count // 5, 99997)
+    again = (count - 5 * rounds - 8) // 3
+    out = [header(3, 2, 1, 1, 1, 1, 1)]
+    out += ["1 L 0x0\n"] * rounds + ["1 S 0x0 1\n0 L 0x0\n2 L 0x0\n", "steps\n"]
+    out += ["i 1\nt 1 0 q -\nt 0 1 r -\ne 1 0 hint\nt 1 0 q -\n"] * rounds
+    if again > 0:
+        out += ["i 1\nt 1 0 q -\nt 0 1 r -\ni 0\n"] + ["i 2\nt 2 0 q -\nt 0 2 r -\n"] * again
     return "".join(out) + "end\n"
 
 
