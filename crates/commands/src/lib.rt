@@ -10,4 +10,4 @@ mod texts;
 
 pub use command::Command;
 pub use replaying::ReplayError;
-pub use texts::command_text;
+pub use texts::{command_text, command_text_over};

@@ -2,11 +2,14 @@
 
 ghost use Rattle.std.specs.Prelude.{◌≡◌, replicate, IfOk};
 ghost use Rattle.op_model.specs.Shares.{Linked};
+ghost use Rattle.op_model.specs.Run.Bounds.{request_bound as requests_at_most, reply_bound as replies_at_most};
+ghost use Rattle.lane_queues.specs.LaneStates.{no_messages};
+ghost use Rattle.lane_queues.specs.Queues.{meaning_of};
 ghost use Rattle.machine.specs.Driven.{run_made};
 ghost use Rattle.sharer_dir.specs.Linked.{first_linked};
 ghost use Rattle.commands.specs.Runs.{machine_at_start};
 
-use lane_queues::RingLanes;
+use lane_queues::{Lanes, RingLanes};
 use line_map::Machine;
 use machine::Machine1;
 use op_model::NoMemory;
@@ -27,20 +30,24 @@ fn linked_dirs(alloc: Global, cfg: Machine) -> Result<Vec<LinkedDir>, NoMemory>
     Ok(dirs)
 }
 
-/// The machine of a trace at its start, over directories of linked lists and rings of messages.
-pub(crate) fn linked_machine(
+/// The machine of a trace at its start, over directories of linked lists and these lanes.
+pub(crate) fn linked_machine<Q: Lanes>(
     alloc: Global,
     trace: &Trace,
-) -> Result<Machine1<LinkedDir, RingLanes>, NoMemory>
+    lanes: Q,
+) -> Result<Machine1<LinkedDir, Q>, NoMemory>
+    requires { Q.meaning lanes ≡ no_messages trace.now.sizes (requests_at_most trace.now.sizes) (replies_at_most trace.now.sizes) }
     ensures { IfOk result (λ made. run_made made ≡ machine_at_start Linked trace.now) }
 {
     let cfg = trace.cfg();
-    let lanes = RingLanes::new(alloc, cfg, request_bound(&cfg), reply_bound(&cfg))?;
-    Machine1::start(
-        alloc,
-        cfg,
-        programs(alloc, trace)?,
-        linked_dirs(alloc, cfg)?,
-        lanes,
-    )
+    let programs = programs(alloc, trace)?;
+    Machine1::start(alloc, cfg, programs, linked_dirs(alloc, cfg)?, lanes)
+}
+
+/// Empty lanes of the machine of a trace, as rings of words with room for as many messages as there can be.
+pub(crate) fn ring_lanes(alloc: Global, trace: &Trace) -> Result<RingLanes, NoMemory>
+    ensures { IfOk result (λ lanes. meaning_of lanes ≡ no_messages trace.now.sizes (requests_at_most trace.now.sizes) (replies_at_most trace.now.sizes)) }
+{
+    let cfg = trace.cfg();
+    RingLanes::new(alloc, cfg, request_bound(&cfg), reply_bound(&cfg))
 }

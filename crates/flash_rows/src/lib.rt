@@ -6,6 +6,10 @@ mod calls;
 #[cfg(test)]
 mod faults;
 #[cfg(test)]
+mod left_out;
+#[cfg(test)]
+mod lists;
+#[cfg(test)]
 mod refusals;
 #[cfg(test)]
 mod reports;

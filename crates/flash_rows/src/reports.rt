@@ -22,7 +22,7 @@ const TWO: &str = "0 pending 0 held 0 free 1; 1 pending 0 held 0 free 1";
 const THREE: &str =
     "0 pending 0 held 0 free 1; 1 pending 0 held 0 free 1; 2 pending 0 held 0 free 1";
 
-const ROWS: [Row; 29] = [
+const ROWS: [Row; 31] = [
     // No operation.
     Row {
         words: "serial",
@@ -388,6 +388,30 @@ const ROWS: [Row; 29] = [
         lines: "0 local clean idle -",
         homes: TWO,
         counts: "events 5; issues 3; local 3; evict-wb 1; evict-silent 1",
+    },
+    // A seeded run that feels a full budget. This row and the next one are told by a program of its own, written from the protocol's page.
+    Row {
+        words: "seeded 77",
+        version: 1,
+        sizes: [4, 2, 1, 8, 1, 1, 1],
+        ops: "1 S 0x0 1; 1 S 0x8 2; 2 L 0x0; 3 L 0x8; 2 S 0x8 3; 0 L 0x0",
+        steps: None,
+        history: "2 0 L 0x0 0; 3 0 L 0x8 0; 0 0 L 0x0 0; 2 1 S 0x8 3; 1 0 S 0x0 1; 1 1 S 0x8 2",
+        lines: "1 - dirty idle 1",
+        homes: "0 pending 0 held 0 free 8; 1 pending 0 held 0 free 8; 2 pending 0 held 0 free 8; 3 pending 0 held 0 free 8",
+        counts: "events 37; issues 10; local 1; evict-wb 1; evict-silent 1; take-get 2; take-getx 7; take-fwdgetx 1; take-inv 2; take-wb 1; take-put 2; take-putx 3; take-nak 4; take-invack 2; take-fack 1; nak-budget 4",
+    },
+    // A seeded run whose home runs low on links, and reclaims.
+    Row {
+        words: "seeded 1",
+        version: 1,
+        sizes: [4, 4, 1, 8, 4, 2, 1],
+        ops: "1 L 0x0; 2 L 0x0; 3 L 0x0; 1 L 0x8; 2 L 0x8; 3 L 0x8; 1 L 0x10; 2 L 0x10; 3 L 0x10; 1 L 0x18; 2 L 0x18; 3 L 0x18",
+        steps: None,
+        history: "1 0 L 0x0 0; 3 0 L 0x0 0; 3 1 L 0x8 0; 3 2 L 0x10 0; 2 0 L 0x0 0; 1 1 L 0x8 0; 2 1 L 0x8 0; 3 3 L 0x18 0; 1 2 L 0x10 0; 2 2 L 0x10 0; 2 3 L 0x18 0; 1 3 L 0x18 0",
+        lines: "2 - clean idle 1,2,3; 3 - clean idle 1,2,3",
+        homes: "0 pending 0 held 4 free 4; 1 pending 0 held 0 free 8; 2 pending 0 held 0 free 8; 3 pending 0 held 0 free 8",
+        counts: "events 50; issues 12; take-get 12; take-inv 6; take-put 12; take-invack 6; reclaims 2",
     },
 ];
 
