@@ -1,0 +1,9 @@
+pub mod Histories
+pub mod Counting
+pub mod Programs
+pub mod Firsts
+pub mod LineByLine
+pub mod Named
+pub mod Spelled
+pub mod Ends
+pub mod Cuts

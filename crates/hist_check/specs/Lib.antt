@@ -1,0 +1,9 @@
+pub mod CauseNames
+pub mod Cut
+pub mod Good
+pub mod Bad
+pub mod Counts
+pub mod Forms
+pub mod Reading
+pub mod Places
+pub mod Spelling
