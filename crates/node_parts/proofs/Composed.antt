@@ -9,9 +9,9 @@ use Rattle.op_model.specs.Parts.Part.{Part, ByLane, at_lane, sent_to, taken_from
 use Rattle.op_model.specs.Parts.OwnStep.{after_outcome}
 use Rattle.op_model.specs.Parts.Composition.{compose}
 use Rattle.std.proofs.Math.Seq.{drop-nil}
+use Rattle.std.proofs.lemmas.Bool.{eqb-true}
 use Rattle.std.proofs.lemmas.List.{drop-append-le}
 use Rattle.one_history.proofs.Owns.{to_lane-append}
-use Rattle.node_parts.proofs.Basics.{is-same}
 
 drop_more : {A : Type 0} (j k : ℕ) (xs : List A) → drop (j + k) xs ≡ drop k (drop j xs)
 drop_more zero k xs = ap (λ n. drop n xs) (zero-add k)
@@ -43,7 +43,7 @@ pub compose_same : (parts : ℕ → Part) (n : ℕ) (p : Part) → core p ≡ co
 compose_same parts n p e = compose_core (put_at parts n p) parts (λ i. core_with parts n p (core (parts n)) i e ∙ here i (i == n) refl)
   where
     here : (i : ℕ) (v : Bool) → (i == n) ≡ v → cond v (core (parts n)) (core (parts i)) ≡ core (parts i)
-    here i true t = ap (λ k. core (parts k)) (sym (is-same i n t))
+    here i true t = ap (λ k. core (parts k)) (sym (eqb-true i n t))
     here i false t = refl
 
 -- two parts that compose reads alike
@@ -62,7 +62,7 @@ composed parts n taken o off tk le k = record { share = λ m. sym (shares m (m =
     shares m false = refl
 
     sents : (a b : ℕ) (c : Class) (v : Bool) → (a == n) ≡ v → sent_to (cond v (after_outcome (parts n) taken o) (parts a)) b c ≡ sent_to (parts a) b c ++ cond v (to_lane b c o.sends) []
-    sents a b c true e = to_lane-append b c (parts n).sent o.sends ∙ ap (λ m. sent_to (parts m) b c ++ to_lane b c o.sends) (sym (is-same a n e))
+    sents a b c true e = to_lane-append b c (parts n).sent o.sends ∙ ap (λ m. sent_to (parts m) b c ++ to_lane b c o.sends) (sym (eqb-true a n e))
     sents a b c false e = sym (append-nil (sent_to (parts a) b c))
 
     lanes : (a b : ℕ) (c : Class) → drop (taken_from (put_at parts n (after_outcome (parts n) taken o) b) a c) (sent_to (put_at parts n (after_outcome (parts n) taken o) a) b c)

@@ -2,6 +2,7 @@
 -- The number of entries with a ticket, summed over the nodes, changes by one term.
 use Rattle.std.proofs.Common.{◌≡◌, ◌≢◌, ℕ, zero, suc, ◌+◌, ◌<◌, Bool, true, false, cond, ◌==◌, nat_lt, List, [], ◌∷◌, ◌++◌, length, slice_get, refl, sym, ap, ◌∙◌, subst, arith, Option, Some, None}
 use Rattle.std.proofs.lemmas.Bool.Decides.{nat_tests}
+use Rattle.std.proofs.lemmas.List.{length_push}
 use Rattle.std.proofs.lemmas.List.Sums.{sum_by-append, sum_by-cons}
 use Rattle.op_model.specs.declared.events.Event.{Event}
 use Rattle.op_model.specs.declared.events.Numbered.{Numbered}
@@ -14,17 +15,12 @@ use Rattle.op_model.specs.Parts.OwnStep.{own_step}
 use Rattle.op_model.specs.Parts.Composition.{IsReady, compose}
 use Rattle.op_model.specs.Parts.Journal.{Agrees, IsJournal, drawn}
 use Rattle.line_map.specs.Sizes.{Sizes}
+use Rattle.op_model.proofs.Plain.{eqb-self, total-zero, total-alike}
 use Rattle.node_parts.proofs.Composed.{compose_alike}
 use Rattle.node_parts.proofs.OwnChange.{own_change}
 use Rattle.node_parts.proofs.Runs.{run_goes_on}
 
--- a sum of which one term, or none, is other
-total-alike : (f g : ℕ → ℕ) (n : ℕ) → ((i : ℕ) → i < n → g i ≡ f i) → total g n ≡ total f n
-unfolding total
-total-alike f g zero same = refl
-total-alike f g (suc n) same = let rest = total-alike f g n (λ i less. same i (omega arith)) in let last = same n (omega arith) in omega arith
-
-total-put : (f g : ℕ → ℕ) (n k d : ℕ) → k < n → ((i : ℕ) → i ≢ k → g i ≡ f i) → g k ≡ f k + d → total g n ≡ total f n + d
+pub total-put : (f g : ℕ → ℕ) (n k d : ℕ) → k < n → ((i : ℕ) → i ≢ k → g i ≡ f i) → g k ≡ f k + d → total g n ≡ total f n + d
 unfolding total
 total-put f g zero k d within others more = absurd (omega arith)
 total-put f g (suc n) k d within others more = go (k == n) refl (total-put f g n k d)
@@ -48,10 +44,6 @@ drawn-more ticket log entry =
     let a = sum_by-append test log (entry ∷ []) in
     let b = sum_by-cons test entry [] in
     omega arith
-
-length-more : {A : Type 0} (xs : List A) (x : A) → length (xs ++ x ∷ []) ≡ length xs + 1
-length-more [] x = omega arith
-length-more (y ∷ ys) x = let rest = length-more ys x in omega arith
 
 -- what stands in a list stands there in a longer one, and the new element at its end
 get-before : {A : Type 0} (xs : List A) (x : A) (i : ℕ) (y : A) → slice_get xs i ≡ Some y → slice_get (xs ++ x ∷ []) i ≡ Some y
@@ -84,11 +76,8 @@ module _ (nodes : ℕ) (parts : ℕ → Part) (journal : List Event) (is : IsJou
   next = put_at parts node (logged after entry)
 
   log-there : (next node).log ≡ (parts node).log ++ entry ∷ []
-  log-there = at (node == node) (self node)
+  log-there = at (node == node) (eqb-self node)
     where
-      self : (n : ℕ) → (n == n) ≡ true
-      self n = grind (arith, nat_tests)
-
       at : (c : Bool) → c ≡ true → (cond c (logged after entry) (parts node)).log ≡ (parts node).log ++ entry ∷ []
       at true e = ap (λ l. l ++ entry ∷ []) kept
       at false e = cc
@@ -108,7 +97,7 @@ module _ (nodes : ℕ) (parts : ℕ → Part) (journal : List Event) (is : IsJou
           let more = drawn-more ticket (parts node).log entry in
           let here : drawn ticket (next node).log ≡ drawn ticket (parts node).log + cond {A = ℕ} (length journal == ticket) 1 0 = ap (drawn ticket) log-there ∙ more in
           let sum = total-put (λ i. drawn ticket (parts i).log) (λ i. drawn ticket (next i).log) nodes node (cond {A = ℕ} (length journal == ticket) 1 0) within (λ i apart. ap (drawn ticket) (log-else i apart)) here in
-          sum ∙ ap (λ n. n + cond {A = ℕ} (length journal == ticket) 1 0) (is.once ticket) ∙ once-more ticket (length journal) ∙ ap (λ n. cond {A = ℕ} (nat_lt ticket n) 1 0) (sym (length-more journal event))
+          sum ∙ ap (λ n. n + cond {A = ℕ} (length journal == ticket) 1 0) (is.once ticket) ∙ once-more ticket (length journal) ∙ ap (λ n. cond {A = ℕ} (nat_lt ticket n) 1 0) (sym (length_push journal event))
 
       agrees : (i : ℕ) → i < nodes → Agrees (journal ++ event ∷ []) (next i).log
       agrees i less = go (i == node) refl
@@ -123,15 +112,9 @@ module _ (nodes : ℕ) (parts : ℕ → Part) (journal : List Event) (is : IsJou
               let apart : i ≢ node = grind (arith, nat_tests) in
               subst (Agrees (journal ++ event ∷ [])) (sym (log-else i apart)) (agrees-more journal event (parts i).log (is.agrees i less))
 
--- at the start no ticket was drawn
-total-none : (n : ℕ) → total (λ i. 0) n ≡ 0
-unfolding total
-total-none zero = refl
-total-none (suc n) = let rest = total-none n in omega arith
-
 pub journal-start : (nodes : ℕ) (sizes : Sizes) (programs : Programs) → IsJournal nodes (parts_at_start sizes programs) []
 journal-start nodes sizes programs =
-    record { once = λ ticket. total-none nodes ∙ none ticket; agrees = λ node less. tt }
+    record { once = λ ticket. total-zero nodes ∙ none ticket; agrees = λ node less. tt }
   where
     none : (ticket : ℕ) → 0 ≡ cond {A = ℕ} (nat_lt ticket 0) 1 0
     none ticket = grind (arith, nat_tests)

@@ -1,6 +1,6 @@
 -- The law of parts: where a part's own step isn't refused, the composed machine takes that step too, to what the parts then make. It never looks at what a node does.
 use Rattle.std.proofs.Common.{◌≡◌, ℕ, zero, suc, ◌+◌, ◌-◌, ◌<◌, ◌≤◌, Bool, true, false, cond, ◌==◌, ◌&&◌, nat_lt, List, [], ◌∷◌, length, drop, refl, sym, ap, ◌∙◌, subst, arith, Option, Some, None, Ok}
-use Rattle.std.proofs.lemmas.Bool.Decides.{nat_tests}
+use Rattle.std.proofs.lemmas.Bool.{eqb-true, and_parts, lt-ltb, ltb-true}
 use Rattle.line_map.specs.Sizes.{Sizes, home_of}
 use Rattle.op_model.specs.declared.events.Class.{Class}
 use Rattle.op_model.specs.declared.events.Class.TheVariants.{Request}
@@ -16,9 +16,9 @@ use Rattle.op_model.specs.Events.Step.{Programs, Off, none_off, one_off, put_at,
 use Rattle.op_model.specs.Parts.Part.{Part, ByLane, at_lane, put_lane, sent_to, flushed_to, taken_from, cleared_from, out_note, in_note, notes_empty, named, gate_count, own_room}
 use Rattle.op_model.specs.Parts.OwnStep.{after_outcome, part_of, take_named, own_step}
 use Rattle.op_model.specs.Parts.Composition.{compose, IsReady}
-use Rattle.one_history.proofs.Project.{one_class}
+use Rattle.op_model.proofs.Shares.{same_class-is}
 use Rattle.one_history.proofs.LocalRoom.{local_room}
-use Rattle.node_parts.proofs.Basics.{is-same, some_when, both_true, went_on}
+use Rattle.node_parts.proofs.Basics.{some_when, went_on}
 use Rattle.node_parts.proofs.Composed.{composed}
 use Rattle.node_parts.proofs.Departures.{departures_later, count_is}
 
@@ -53,7 +53,7 @@ module _ (charge : Charge) (z : Sizes) (ps : Programs) (parts : ℕ → Part) (n
   kept out a b c = here (b == n) refl
     where
       here : (v : Bool) → (b == n) ≡ v → taken_from (cond v (after_outcome mine mine.taken out) (parts b)) a c ≡ taken_from (parts b) a c + 0
-      here true e = ap (λ m. taken_from (parts m) a c) (sym (is-same b n e)) ∙ omega arith
+      here true e = ap (λ m. taken_from (parts m) a c) (sym (eqb-true b n e)) ∙ omega arith
       here false e = omega arith
 
   stays : (a b : ℕ) (c : Class) → taken_from (parts b) a c + 0 ≤ length (sent_to (parts a) b c)
@@ -70,16 +70,10 @@ module _ (charge : Charge) (z : Sizes) (ps : Programs) (parts : ℕ → Part) (n
   room_stays line e =
       let b : ℕ = home_of z line in
       let e' : nat_lt (gate_count mine b) z.evicts ≡ true = sym (λ k. nat_lt (gate_count mine (home_of (r.machine k) line)) (r.machine k).evicts) ∙ e in
-      let lt : gate_count mine b < z.evicts = below (gate_count mine b) z.evicts e' in
+      let lt : gate_count mine b < z.evicts = ltb-true (gate_count mine b) z.evicts e' in
       let count = count_is mine b in
       let le = departures_later (flushed_to mine b Request - cond (notes_empty (out_note mine b Request)) 0 1) (taken_from (parts b) n Request) (sent_to mine b Request) (r.gate b) in
-      above (departures (drop (taken_from (parts b) n Request) (sent_to mine b Request))) z.evicts (omega (arith, lt, le, count))
-    where
-      below : (a b : ℕ) → nat_lt a b ≡ true → a < b
-      below a b e = grind (arith, nat_tests)
-
-      above : (a b : ℕ) → a < b → nat_lt a b ≡ true
-      above a b e = grind (arith, nat_tests)
+      lt-ltb (departures (drop (taken_from (parts b) n Request) (sent_to mine b Request))) z.evicts (omega (arith, lt, le, count))
 
   evicted : (line : ℕ) (kind : EvictKind) (q : Part) → part_of mine mine.taken (local charge mine.sizes mine.number mine.program mine.share (EvictLine line kind (own_room mine line))) ≡ Some q
       → step charge z ps (compose parts) (Evict n line kind) ≡ Ok (compose (put_at parts n q))
@@ -96,13 +90,13 @@ module _ (charge : Charge) (z : Sizes) (ps : Programs) (parts : ℕ → Part) (n
   counted a c out i j d = here (j == n) refl
     where
       lane : (u v : Bool) → (i == a) ≡ u → same_class d c ≡ v → cond (u && v) (taken_from mine a c + 1) (taken_from mine i d) ≡ taken_from mine i d + cond (u && v) 1 0
-      lane true true e f = ap (λ m. m + 1) (λ k. at_lane 0 mine.taken (sym (is-same i a e) k) (sym (one_class d c f) k))
+      lane true true e f = ap (λ m. m + 1) (λ k. at_lane 0 mine.taken (sym (eqb-true i a e) k) (sym (same_class-is d c f) k))
       lane true false e f = omega arith
       lane false v e f = omega arith
 
       here : (v : Bool) → (j == n) ≡ v
           → taken_from (cond v (after_outcome mine (put_lane mine.taken a c (taken_from mine a c + 1)) out) (parts j)) i d ≡ taken_from (parts j) i d + cond (v && ((i == a) && same_class d c)) 1 0
-      here true e = lane (i == a) (same_class d c) refl refl ∙ ap (λ m. taken_from (parts m) i d + cond ((i == a) && same_class d c) 1 0) (sym (is-same j n e))
+      here true e = lane (i == a) (same_class d c) refl refl ∙ ap (λ m. taken_from (parts m) i d + cond ((i == a) && same_class d c) 1 0) (sym (eqb-true j n e))
       here false e = omega arith
 
   fits : (a : ℕ) (c : Class) (m : Msg) (rest : List Msg) → drop (taken_from mine a c) (sent_to (parts a) n c) ≡ m ∷ rest
@@ -112,7 +106,7 @@ module _ (charge : Charge) (z : Sizes) (ps : Programs) (parts : ℕ → Part) (n
       here : (u v w : Bool) → (j == n) ≡ u → (i == a) ≡ v → same_class d c ≡ w → taken_from (parts j) i d + cond (u && (v && w)) 1 0 ≤ length (sent_to (parts i) j d)
       here true true true p q s =
           let P : ℕ × (ℕ × Class) → Type 0 = λ t. taken_from (parts t.0) (t.1).0 (t.1).1 + 1 ≤ length (sent_to (parts (t.1).0) t.0 (t.1).1) in
-          subst P (λ k. (sym (is-same j n p) k, (sym (is-same i a q) k, sym (one_class d c s) k))) (drop_rest (taken_from mine a c) (sent_to (parts a) n c) m rest e)
+          subst P (λ k. (sym (eqb-true j n p) k, (sym (eqb-true i a q) k, sym (same_class-is d c s) k))) (drop_rest (taken_from mine a c) (sent_to (parts a) n c) m rest e)
       here true true false p q s = let h = r.counts i j d in omega arith
       here true false w p q s = let h = r.counts i j d in omega arith
       here false v w p q s = let h = r.counts i j d in omega arith
@@ -135,23 +129,23 @@ unfolding own_step
 law_of_parts charge z ps parts n r (Hit m) q is =
     let (v, w) = some_when (m == (parts n).number) (part_of (parts n) (parts n).taken (local charge (parts n).sizes (parts n).number (parts n).program (parts n).share HitNext)) q is in
     let P : ℕ → Type 0 = λ k. step charge z ps (compose parts) (Hit k) ≡ Ok (compose (put_at parts n q)) in
-    subst P (sym (is-same m (parts n).number v ∙ r.number)) (acts charge z ps parts n r HitNext q w)
+    subst P (sym (eqb-true m (parts n).number v ∙ r.number)) (acts charge z ps parts n r HitNext q w)
 law_of_parts charge z ps parts n r (Issue m) q is =
     let (v, w) = some_when (m == (parts n).number) (part_of (parts n) (parts n).taken (local charge (parts n).sizes (parts n).number (parts n).program (parts n).share IssueNext)) q is in
     let P : ℕ → Type 0 = λ k. step charge z ps (compose parts) (Issue k) ≡ Ok (compose (put_at parts n q)) in
-    subst P (sym (is-same m (parts n).number v ∙ r.number)) (acts charge z ps parts n r IssueNext q w)
+    subst P (sym (eqb-true m (parts n).number v ∙ r.number)) (acts charge z ps parts n r IssueNext q w)
 law_of_parts charge z ps parts n r (Evict m line kind) q is =
     let (v, w) = some_when (m == (parts n).number) (part_of (parts n) (parts n).taken (local charge (parts n).sizes (parts n).number (parts n).program (parts n).share (EvictLine line kind (own_room (parts n) line)))) q is in
     let P : ℕ → Type 0 = λ k. step charge z ps (compose parts) (Evict k line kind) ≡ Ok (compose (put_at parts n q)) in
-    subst P (sym (is-same m (parts n).number v ∙ r.number)) (evicted charge z ps parts n r line kind q w)
+    subst P (sym (eqb-true m (parts n).number v ∙ r.number)) (evicted charge z ps parts n r line kind q w)
 law_of_parts charge z ps parts n r (Take a b c victim) q is =
     let (v, w) = some_when ((b == (parts n).number) && (taken_from (parts n) a c == cleared_from (parts n) a c)) (take_named charge (parts n) a c victim (named (parts n).sizes (in_note (parts n) a c))) q is in
-    let (x, y) = both_true (b == (parts n).number) (taken_from (parts n) a c == cleared_from (parts n) a c) v in
+    let (x, y) = and_parts (b == (parts n).number) (taken_from (parts n) a c == cleared_from (parts n) a c) v in
     let P : ℕ → Type 0 = λ k. step charge z ps (compose parts) (Take a k c victim) ≡ Ok (compose (put_at parts n q)) in
-    subst P (sym (is-same b (parts n).number x ∙ r.number))
-    (took charge z ps parts n r a c victim (named (parts n).sizes (in_note (parts n) a c)) q (λ k. named (sym r.machine k) (in_note (parts n) a c)) (is-same (taken_from (parts n) a c) (cleared_from (parts n) a c) y) w)
+    subst P (sym (eqb-true b (parts n).number x ∙ r.number))
+    (took charge z ps parts n r a c victim (named (parts n).sizes (in_note (parts n) a c)) q (λ k. named (sym r.machine k) (in_note (parts n) a c)) (eqb-true (taken_from (parts n) a c) (cleared_from (parts n) a c) y) w)
 law_of_parts charge z ps parts n r (Reclaim line) q is =
     let (v, w) = some_when (home_of (parts n).sizes line == (parts n).number) (part_of (parts n) (parts n).taken (local charge (parts n).sizes (parts n).number (parts n).program (parts n).share (ReclaimLine line))) q is in
-    let home : home_of z line ≡ n = ap (λ m. home_of m line) (sym r.machine) ∙ is-same (home_of (parts n).sizes line) (parts n).number v ∙ r.number in
+    let home : home_of z line ≡ n = ap (λ m. home_of m line) (sym r.machine) ∙ eqb-true (home_of (parts n).sizes line) (parts n).number v ∙ r.number in
     let P : ℕ → Type 0 = λ k. map_ok (after (compose parts)) (act k none_off (local charge z k (ps k) (parts k).share (ReclaimLine line))) ≡ Ok (compose (put_at parts n q)) in
     subst P (sym home) (acts charge z ps parts n r (ReclaimLine line) q w)

@@ -1,6 +1,6 @@
 -- What an own step leaves alone, and when it goes on.
-use Rattle.std.proofs.Common.{◌≡◌, ◌⊎◌, inl, inr, ℕ, ◌+◌, Bool, true, false, cond, ◌==◌, ◌&&◌, refl, sym, ap, ◌∙◌, subst, arith, Option, Some, None, Result, Ok}
-use Rattle.std.proofs.lemmas.Bool.Decides.{nat_tests}
+use Rattle.std.proofs.Common.{◌≡◌, ◌⊎◌, inl, inr, ℕ, ◌+◌, Bool, true, false, cond, ◌==◌, ◌&&◌, refl, sym, ap, ◌∙◌, subst, Option, Some, None, Result, Ok}
+use Rattle.std.proofs.lemmas.Bool.{eqb-true, and_parts, eq-eqb}
 use Rattle.line_map.specs.Sizes.{Sizes, home_of}
 use Rattle.op_model.specs.declared.events.Class.{Class}
 use Rattle.op_model.specs.declared.events.Cause.{Cause}
@@ -15,8 +15,8 @@ use Rattle.op_model.specs.MessageWords.{from_words}
 use Rattle.op_model.specs.Parts.Part.{Part, ByLane, at_lane, put_lane, Note, taken_from, cleared_from, in_note, notes_full, named, own_room}
 use Rattle.op_model.specs.Parts.OwnStep.{after_outcome, part_of, take_named, own_step}
 use Rattle.op_model.specs.Parts.Composition.{IsOwnChange}
-use Rattle.one_history.proofs.Project.{one_class}
-use Rattle.node_parts.proofs.Basics.{is-same, some_when, both_true, went_on}
+use Rattle.op_model.proofs.Shares.{same_class-is}
+use Rattle.node_parts.proofs.Basics.{some_when, went_on}
 
 abbrev Moves : Part → ByLane ℕ → Type 0
 Moves p t = (a : ℕ) (c : Class) → (at_lane 0 t a c ≡ taken_from p a c) ⊎ ((at_lane 0 t a c ≡ taken_from p a c + 1) × (taken_from p a c ≡ cleared_from p a c) × (notes_full (in_note p a c) ≡ true))
@@ -47,7 +47,7 @@ module _ (charge : Charge) where
           → (cond (u && v) (taken_from p a c + 1) (taken_from p i d) ≡ taken_from p i d) ⊎ ((cond (u && v) (taken_from p a c + 1) (taken_from p i d) ≡ taken_from p i d + 1) × (taken_from p i d ≡ cleared_from p i d) × (notes_full (in_note p i d) ≡ true))
       here i d true true x y =
           let P : ℕ × Class → Type 0 = λ k. (taken_from p a c + 1 ≡ taken_from p k.0 k.1 + 1) × (taken_from p k.0 k.1 ≡ cleared_from p k.0 k.1) × (notes_full (in_note p k.0 k.1) ≡ true) in
-          inr (subst P (λ k. (sym (is-same i a x) k, sym (one_class d c y) k)) (refl, ready, named_full p.sizes (in_note p a c) m note))
+          inr (subst P (λ k. (sym (eqb-true i a x) k, sym (same_class-is d c y) k)) (refl, ready, named_full p.sizes (in_note p a c) m note))
       here i d true false x y = inl refl
       here i d false v x y = inl refl
 
@@ -58,32 +58,29 @@ module _ (charge : Charge) where
   own_change p (Evict n line kind) q is = acts_change p (n == p.number) (EvictLine line kind (own_room p line)) q is
   own_change p (Take a b c victim) q is =
       let (v, w) = some_when ((b == p.number) && (taken_from p a c == cleared_from p a c)) (take_named charge p a c victim (named p.sizes (in_note p a c))) q is in
-      let (x, y) = both_true (b == p.number) (taken_from p a c == cleared_from p a c) v in
-      taking p a c victim (named p.sizes (in_note p a c)) q refl (is-same (taken_from p a c) (cleared_from p a c) y) w
+      let (x, y) = and_parts (b == p.number) (taken_from p a c == cleared_from p a c) v in
+      taking p a c victim (named p.sizes (in_note p a c)) q refl (eqb-true (taken_from p a c) (cleared_from p a c) y) w
   own_change p (Reclaim line) q is = acts_change p (home_of p.sizes line == p.number) (ReclaimLine line) q is
 
   -- that an own step goes on, from what the node does: an event that takes no message
   part_of_ok : (p : Part) (taken : ByLane ℕ) (r : Result NodeOutcome Cause) (out : NodeOutcome) → r ≡ Ok out → part_of p taken r ≡ Some (after_outcome p taken out)
   part_of_ok p taken r out e = ap (part_of p taken) e
 
-  same-is : (a b : ℕ) → a ≡ b → (a == b) ≡ true
-  same-is a b e = grind (arith, nat_tests)
-
   pub own_hit : (p : Part) (out : NodeOutcome) → local charge p.sizes p.number p.program p.share HitNext ≡ Ok out → own_step charge p (Hit p.number) ≡ Some (after_outcome p p.taken out)
   unfolding own_step
-  own_hit p out goes = ap (λ v. cond v (part_of p p.taken (local charge p.sizes p.number p.program p.share HitNext)) None) (same-is p.number p.number refl) ∙ part_of_ok p p.taken _ out goes
+  own_hit p out goes = ap (λ v. cond v (part_of p p.taken (local charge p.sizes p.number p.program p.share HitNext)) None) (eq-eqb p.number p.number refl) ∙ part_of_ok p p.taken _ out goes
 
   pub own_issue : (p : Part) (out : NodeOutcome) → local charge p.sizes p.number p.program p.share IssueNext ≡ Ok out → own_step charge p (Issue p.number) ≡ Some (after_outcome p p.taken out)
   unfolding own_step
-  own_issue p out goes = ap (λ v. cond v (part_of p p.taken (local charge p.sizes p.number p.program p.share IssueNext)) None) (same-is p.number p.number refl) ∙ part_of_ok p p.taken _ out goes
+  own_issue p out goes = ap (λ v. cond v (part_of p p.taken (local charge p.sizes p.number p.program p.share IssueNext)) None) (eq-eqb p.number p.number refl) ∙ part_of_ok p p.taken _ out goes
 
   pub own_evict : (p : Part) (line : ℕ) (kind : EvictKind) (out : NodeOutcome) → local charge p.sizes p.number p.program p.share (EvictLine line kind (own_room p line)) ≡ Ok out → own_step charge p (Evict p.number line kind) ≡ Some (after_outcome p p.taken out)
   unfolding own_step
-  own_evict p line kind out goes = ap (λ v. cond v (part_of p p.taken (local charge p.sizes p.number p.program p.share (EvictLine line kind (own_room p line)))) None) (same-is p.number p.number refl) ∙ part_of_ok p p.taken _ out goes
+  own_evict p line kind out goes = ap (λ v. cond v (part_of p p.taken (local charge p.sizes p.number p.program p.share (EvictLine line kind (own_room p line)))) None) (eq-eqb p.number p.number refl) ∙ part_of_ok p p.taken _ out goes
 
   pub own_reclaim : (p : Part) (line : ℕ) (out : NodeOutcome) → home_of p.sizes line ≡ p.number → local charge p.sizes p.number p.program p.share (ReclaimLine line) ≡ Ok out → own_step charge p (Reclaim line) ≡ Some (after_outcome p p.taken out)
   unfolding own_step
-  own_reclaim p line out home goes = ap (λ v. cond v (part_of p p.taken (local charge p.sizes p.number p.program p.share (ReclaimLine line))) None) (same-is (home_of p.sizes line) p.number home) ∙ part_of_ok p p.taken _ out goes
+  own_reclaim p line out home goes = ap (λ v. cond v (part_of p p.taken (local charge p.sizes p.number p.program p.share (ReclaimLine line))) None) (eq-eqb (home_of p.sizes line) p.number home) ∙ part_of_ok p p.taken _ out goes
 
   -- a Take of the message that the standing note names
   pub own_take : (p : Part) (from : ℕ) (class : Class) (victim : Option ℕ) (message : Msg) (out : NodeOutcome) → taken_from p from class ≡ cleared_from p from class → named p.sizes (in_note p from class) ≡ Some message →
@@ -91,5 +88,5 @@ module _ (charge : Charge) where
   unfolding own_step
   own_take p from class victim message out ready note goes =
       let x : Option Part = take_named charge p from class victim (named p.sizes (in_note p from class)) in
-      ap (λ v. cond v x None) (λ k. same-is p.number p.number refl k && same-is (taken_from p from class) (cleared_from p from class) ready k)
+      ap (λ v. cond v x None) (λ k. eq-eqb p.number p.number refl k && eq-eqb (taken_from p from class) (cleared_from p from class) ready k)
       ∙ (ap (take_named charge p from class victim) note ∙ part_of_ok p (put_lane p.taken from class (taken_from p from class + 1)) _ out goes)
