@@ -1,22 +1,16 @@
 -- The same empty directory for each node of a machine: one a node, all fresh and of one charge.
-use Rattle.std.proofs.Common.{◌≡◌, ℕ, zero, suc, ◌<◌, ◌≤◌, List, [], ◌∷◌, length, map, replicate, refl, sym, ap, subst, ◌∙◌, Some, None}
+use Rattle.std.proofs.Common.{◌≡◌, ℕ, zero, suc, ◌<◌, ◌≤◌, List, [], map, replicate, refl, sym, ap, subst, ◌∙◌, Some, None}
 use Rattle.std.specs.Prelude.{slice_get}
+use Rattle.std.proofs.lemmas.List.{length-replicate}
 use Rattle.std.proofs.lemmas.Option.{same_Some}
 use Rattle.line_map.specs.Sizes.{Sizes, AreSizes}
 use Rattle.line_map.proofs.Sizable.{few-nodes}
 use Rattle.op_model.specs.Shares.{Linked}
+use Rattle.op_model.proofs.Plain.{map-replicate}
 use Rattle.dir_header.specs.Sharers.{Directory}
 use Rattle.dir_header.specs.HomeSides.{IsFresh}
 use Rattle.machine.specs.Starts.{AreFresh, IsFreshOf, charge_of}
 use Rattle.sharer_dir.specs.Linked.{LinkedView, linked_directory, first_linked}
-
-map-replicate : {A B : Type 0} (f : A → B) (n : ℕ) (a : A) → map f (replicate n a) ≡ replicate n (f a)
-map-replicate f zero a = refl
-map-replicate f (suc n) a = ap (λ rest. f a ∷ rest) (map-replicate f n a)
-
-length-same : {A : Type 0} (n : ℕ) (a : A) → length (replicate n a) ≡ n
-length-same zero a = refl
-length-same (suc n) a = ap suc (length-same n a)
 
 each-same : {A : Type 0} (n i : ℕ) (a x : A) → slice_get (replicate n a) i ≡ Some x → a ≡ x
 each-same zero i a x at = cc
@@ -41,6 +35,6 @@ linked-fresh sizes are = subst (AreFresh sizes) (sym (map-replicate linked_direc
 
     fresh : AreFresh sizes (replicate sizes.nodes dir)
     fresh = record {
-      count = length-same sizes.nodes dir;
+      count = length-replicate sizes.nodes dir;
       each = λ node other at. subst (IsFreshOf sizes (charge_of (replicate sizes.nodes dir))) (each-same sizes.nodes node dir other at) (record { fresh = first; same_charge = sym (charge-same sizes.nodes dir refl) });
     }

@@ -30,7 +30,7 @@ get-put_copy copies line Absent other = fin.get-remove nat_cmp_total copies line
 get-put_copy copies line (Shared words) other = fin.get-insert nat_cmp_total copies line (Shared words) other ∙ by_test copies line other (Some (Shared words))
 get-put_copy copies line (Exclusive words) other = fin.get-insert nat_cmp_total copies line (Exclusive words) other ∙ by_test copies line other (Some (Exclusive words))
 
-same_copies : (copies more : Copies) → ((line : ℕ) → fin.get copies line ≡ fin.get more line) → copies ≡ more
+pub same_copies : (copies more : Copies) → ((line : ℕ) → fin.get copies line ≡ fin.get more line) → copies ≡ more
 same_copies copies more same = fin.same_map nat_cmp_total fin.nat_cmp-IsAntisymmetric copies more same
 
 -- the sets of two lines that are one line are one set

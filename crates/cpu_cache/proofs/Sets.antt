@@ -1,6 +1,7 @@
 -- The sets of a cache by its copies: whether a set is free or taken is known from the line that stands in it.
 use Rattle.std.specs.Prelude.{◌≡◌, ℕ, ◌<◌, ◌≢◌, ◌==◌, Bool, true, false, cond, not, ◌&&◌, ◌||◌, List, [], ◌∷◌, is_some, unwrap_or, Option, Some, None, IsTrue, ◌↔◌}
 use Rattle.std.proofs.Common.{refl, sym, ap, ◌∙◌, subst, arith, ◌⊎◌, inl, inr}
+use Rattle.std.proofs.lemmas.Bool.{and_parts, not-true, and_from, eq-eqb, or_left, or_right}
 use Rattle.std.proofs.lemmas.Bool.Decides.{nat_tests}
 use Rattle.std.specs.List.{list_any}
 use Rattle.std.specs.Ordering.{nat_cmp, eq_by_cmp}
@@ -17,10 +18,6 @@ use Rattle.cpu_cache.specs.declared.cache.Slot.TheVariants.{Empty, Shared, Exclu
 use Rattle.cpu_cache.specs.Slots.{held, FitsSet, IsSlotOf}
 use Rattle.cpu_cache.proofs.Slots.{picked}
 
-both : (a b : Bool) → (a && b) ≡ true → (a ≡ true) × (b ≡ true)
-both true b e = (refl, e)
-both false b e = cc
-
 -- a test of keys: where some entry passes it, some key does
 any_key : {X : Type 0} (f : ℕ → Bool) (es : List (ℕ × X)) → list_any (λ e. f e.0) es ≡ true → (k : ℕ) × (f k ≡ true)
 any_key f [] h = cc
@@ -35,24 +32,12 @@ key_any : {X : Type 0} (f : ℕ → Bool) (es : List (ℕ × X)) (k : ℕ) → i
 key_any f [] k some passes = cc
 key_any f (e ∷ es) k some passes = by (λ some. key_any f es k some passes) (k == e.0) (unsigned_tied k e.0) refl some
   where
-    there : (a b : Bool) → a ≡ true → (a || b) ≡ true
-    there true b h = refl
-    there false b h = cc
-
-    later : (a b : Bool) → b ≡ true → (a || b) ≡ true
-    later true b h = refl
-    later false b h = h
-
     by : (is_some (find nat_cmp k es) ≡ true → list_any (λ e. f e.0) es ≡ true) → (b : Bool) → eq_by_cmp nat_cmp k e.0 ≡ b → (k == e.0) ≡ b → is_some (find nat_cmp k (e ∷ es)) ≡ true → (f e.0 || list_any (λ e. f e.0) es) ≡ true
-    by rest true tied is some = let same : k ≡ e.0 = grind (arith, nat_tests, is) in there (f e.0) _ (rw same at passes)
-    by rest false tied is some = later (f e.0) _ (rest (rw tied at some))
-
-not_false : (b : Bool) → not b ≡ true → b ≡ false
-not_false true h = cc
-not_false false h = refl
+    by rest true tied is some = let same : k ≡ e.0 = grind (arith, nat_tests, is) in or_left (f e.0) _ (rw same at passes)
+    by rest false tied is some = or_right (f e.0) _ (rest (rw tied at some))
 
 set_holds : (cache : CacheView) (line other : ℕ) → stands cache line other ≡ true → (set_of cache.sizes other ≡ set_of cache.sizes line) × (is_empty (copy_in cache.copies other) ≡ false)
-set_holds cache line other h = let b = both (set_of cache.sizes other == set_of cache.sizes line) _ h in (grind (arith, nat_tests, b.0), not_false (is_empty (copy_in cache.copies other)) b.1)
+set_holds cache line other h = let b = and_parts (set_of cache.sizes other == set_of cache.sizes line) _ h in (grind (arith, nat_tests, b.0), not-true (is_empty (copy_in cache.copies other)) b.1)
 
 -- a set is free where none of its lines has a copy
 pub free_by_none : (cache : CacheView) (line : ℕ) → ((other : ℕ) → set_of cache.sizes other ≡ set_of cache.sizes line → is_empty (copy_in cache.copies other) ≡ true) → is_set_free cache line ≡ true
@@ -62,25 +47,18 @@ free_by_none cache line none = by (list_any (λ e. stands cache line e.0) (fin.e
     by true e = let k = any_key (stands cache line) (fin.entries cache.copies) e in let s = set_holds cache line k.0 k.1 in let n = none k.0 s.0 in cc
     by false e = refl
 
-filled : (o : Option Copy) → is_empty (unwrap_or o Absent) ≡ false → is_some o ≡ true
+pub filled : (o : Option Copy) → is_empty (unwrap_or o Absent) ≡ false → is_some o ≡ true
 filled None e = cc
 filled (Some copy) e = refl
 
 entry_of_copy : (cache : CacheView) (line : ℕ) → is_empty (copy_in cache.copies line) ≡ false → is_some (find nat_cmp line (fin.entries cache.copies)) ≡ true
 entry_of_copy cache line e = sym (ap is_some (fin.get-entries cache.copies line)) ∙ filled (fin.get cache.copies line) e
 
-all_three : (a b : Bool) → a ≡ true → b ≡ true → (a && b) ≡ true
-all_three true b p q = q
-all_three false b p q = cc
-
-same_test : (m n : ℕ) → m ≡ n → (m == n) ≡ true
-same_test m n e = grind (arith, nat_tests)
-
 -- a copy in the set of a line is found
 pub found_in_set : (cache : CacheView) (line other : ℕ) → set_of cache.sizes other ≡ set_of cache.sizes line → is_empty (copy_in cache.copies other) ≡ false → list_any (λ e. stands cache line e.0) (fin.entries cache.copies) ≡ true
 found_in_set cache line other same copied =
     key_any (stands cache line) (fin.entries cache.copies) other (entry_of_copy cache other copied)
-    (all_three (set_of cache.sizes other == set_of cache.sizes line) _ (same_test _ _ same) (ap not copied))
+    (and_from (set_of cache.sizes other == set_of cache.sizes line) _ (eq-eqb _ _ same) (ap not copied))
 
 -- no line of a free set has a copy
 pub none_in_free : (cache : CacheView) (line other : ℕ) → is_set_free cache line ≡ true → set_of cache.sizes other ≡ set_of cache.sizes line → is_empty (copy_in cache.copies other) ≡ true
@@ -103,9 +81,9 @@ apart_test m n apart = grind (arith, nat_tests)
 
 clash : (cache : CacheView) (line other : ℕ) → clashes cache line other ≡ true → (set_of cache.sizes other ≡ set_of cache.sizes line) × (other ≢ line) × (is_empty (copy_in cache.copies other) ≡ false)
 clash cache line other h =
-    let outer = both ((set_of cache.sizes other == set_of cache.sizes line) && not (other == line)) _ h in
-    let inner = both (set_of cache.sizes other == set_of cache.sizes line) _ outer.0 in
-    (grind (arith, nat_tests, inner.0), apart_numbers other line inner.1, not_false (is_empty (copy_in cache.copies other)) outer.1)
+    let outer = and_parts ((set_of cache.sizes other == set_of cache.sizes line) && not (other == line)) _ h in
+    let inner = and_parts (set_of cache.sizes other == set_of cache.sizes line) _ outer.0 in
+    (grind (arith, nat_tests, inner.0), apart_numbers other line inner.1, not-true (is_empty (copy_in cache.copies other)) outer.1)
   where
     apart_numbers : (m n : ℕ) → not (m == n) ≡ true → m ≢ n
     apart_numbers m n h = grind (arith, nat_tests)
@@ -115,7 +93,7 @@ pub taken_by : (cache : CacheView) (line resident : ℕ) → IsResident cache li
 taken_by cache line resident r = (
   other_line,
   λ apart. key_any (clashes cache line) (fin.entries cache.copies) resident (entry_of_copy cache resident r.held)
-      (all_three _ _ (all_three _ _ (same_test _ _ r.in_set) (apart_test resident line apart)) (ap not r.held)),
+      (and_from _ _ (and_from _ _ (eq-eqb _ _ r.in_set) (apart_test resident line apart)) (ap not r.held)),
 )
   where
     other_line : IsTrue (is_set_taken cache line) → resident ≢ line
@@ -141,7 +119,7 @@ not_taken cache line free = by (is_set_taken cache line) refl
 -- the line of the only copy in a set stands there
 pub resident_by : (cache : CacheView) (line own : ℕ) (copy : Copy) → is_empty copy ≡ false → set_of cache.sizes own ≡ set_of cache.sizes line → own < all_lines cache.sizes → ((other : ℕ) → set_of cache.sizes other ≡ set_of cache.sizes line → fin.get cache.copies other ≡ cond (other == own) (Some copy) None) → IsResident cache line own
 resident_by cache line own copy full same below only = record {
-  held = ap (λ o. is_empty (unwrap_or o Absent)) (only own same) ∙ ap (λ b. is_empty (unwrap_or (cond b (Some copy) None) Absent)) (same_test own own refl) ∙ full;
+  held = ap (λ o. is_empty (unwrap_or o Absent)) (only own same) ∙ ap (λ b. is_empty (unwrap_or (cond b (Some copy) None) Absent)) (eq-eqb own own refl) ∙ full;
   in_set = same;
   below = below;
   only = λ other same' copied. (picked other own copy (sym (ap is_some (only other same')) ∙ filled (fin.get cache.copies other) copied)).0;

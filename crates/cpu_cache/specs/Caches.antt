@@ -3,10 +3,11 @@ use Rattle.std.specs.Prelude.{◌≡◌, ◌<◌, ℕ, Bool, true, false, ◌==�
 use Rattle.std.specs.FinMap as fin
 use Rattle.std.specs.Coded.{Coded, code_by, coded×, coded_ℕ}
 use Rattle.line_map.specs.Sizes.{Sizes, all_lines, set_of}
+use Rattle.line_map.specs.Codes.{sizes_code}
 pub use Rattle.op_model.specs.Lines.{Copy, Absent, Shared, Exclusive, state_of, words_of, is_empty}
 pub use Rattle.op_model.specs.Shares.{put_copy}
 use Rattle.op_model.specs.Shares.{Copies, copy_in, is_set_free as free_among, is_set_taken as taken_among}
-use Rattle.op_model.specs.Codes.{sizes_code, copy_code}
+use Rattle.op_model.specs.Codes.{copy_code}
 
 -- A cache: its machine, and the copies that it holds
 pub record CacheView : Type 0 where

@@ -1,9 +1,9 @@
 -- What a processor keeps: its program, its place in it, and the operation that it has begun and not done.
-use Rattle.std.specs.Prelude.{◌≡◌, ℕ, ◌≤◌, Bool, false, List, length, slice_get, Option, Some, None}
+use Rattle.std.specs.Prelude.{◌≡◌, ℕ, ◌≤◌, List, length, slice_get, Option, Some, None}
 use Rattle.op_model.specs.declared.Op.{Op}
 use Rattle.op_model.specs.declared.Want.{Want}
-use Rattle.op_model.specs.Operations.{is_load}
 use Rattle.op_model.specs.Lines.{begun}
+pub use Rattle.op_model.specs.Tables.Remote.{waits_load as is_load_wanted}
 
 pub record ProcView : Type 0 where
   pub program : List Op
@@ -18,11 +18,6 @@ next_of proc = slice_get proc.program proc.place
 abbrev pub wanting : Option Op → Option Want
 wanting None = None
 wanting (Some op) = begun op
-
--- whether a load has been begun and not done
-abbrev pub is_load_wanted : Option Want → Bool
-is_load_wanted None = false
-is_load_wanted (Some want) = is_load want.op.kind
 
 -- the place is in the program or behind it, and what has been begun is the operation at the place
 pub record IsProc (proc : ProcView) : Type 0 where

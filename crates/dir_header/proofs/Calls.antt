@@ -1,6 +1,7 @@
 -- What a call leaves of a home's parts: the lists of the directory changed at one line, with the fields of that line's header written
 -- or not, or its words in memory. Each is a change of one header.
 use Rattle.std.proofs.Common.{◌≡◌, ◌≢◌, ℕ, ◌+◌, ◌-◌, ◌%◌, ◌<◌, ◌≤◌, Bool, true, false, cond, not, ◌==◌, List, [], length, refl, sym, ap, ◌∙◌, arith, get_or, set}
+use Rattle.std.proofs.lemmas.Bool.{true≢false}
 use Rattle.std.proofs.lemmas.Bool.Decides.{nat_tests}
 use Rattle.std.proofs.lemmas.List.Sums.{sum_by-le-sum_by}
 use Rattle.std.proofs.lemmas.List.{get_or-set_same, get_or-set_other, get_or_read_under, set-get_or, length-set}
@@ -157,11 +158,8 @@ module _ {D : Type 0} (dir : Directory) (sizes : Sizes) (node : ℕ) (headers : 
         holders' ≡ moved holders m stood (standing_of old.wait (held_by dir.charge list)) → IsHomeSide dir' sizes node headers memory d' budget holders'
     relist-kept holders' kept below calm moves =
         side-kept dir sizes node headers memory d budget holders is line own dir' headers memory d' relisted-header dir-is relist-here relist-others
-        budget holders' kept below (λ waits. absurd (apart (sym waits ∙ calm))) (width-old) refl refl room-old moves refl refl
+        budget holders' kept below (λ waits. absurd (true≢false (sym waits ∙ calm))) (width-old) refl refl room-old moves refl refl
       where
-        apart : true ≡ false → ⊥
-        apart e = cc
-
         width-old : length old.memory ≡ sizes.words
         width-old = sym (ap (λ h. length h.memory) (header-is dir sizes node headers memory d budget holders is line own)) ∙ is.home.width line own
 

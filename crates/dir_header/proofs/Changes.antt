@@ -9,7 +9,7 @@ use Rattle.line_map.specs.Sizes.{Sizes, home_of}
 use Rattle.op_model.specs.Nodes.{Nodes, listed, count, listed-enlist, listed-unlist}
 use Rattle.op_model.specs.Operations.{Words}
 use Rattle.op_model.specs.Lines.{Header, is_pending}
-use Rattle.op_model.specs.Shares.{first_header, header_of, links_in, held_links, header_in, links_among}
+use Rattle.op_model.specs.Shares.{first_header, links_in, header_in, links_among}
 use Rattle.op_model.specs.Tables.Remote.{is_invalidate}
 use Rattle.dir_header.specs.Sharers.{Directory, Linked, IsDirectory, list_at, held_by, held_in, with_list}
 use Rattle.dir_header.specs.Budgets.{BudgetView}

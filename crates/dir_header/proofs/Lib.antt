@@ -9,7 +9,7 @@ pub mod Changes
 pub mod Calls
 pub mod Returns
 pub mod Waits
-pub mod Victims
+pub mod LinkedLines
 pub mod Start
 pub mod Shares
 pub mod Unlisted

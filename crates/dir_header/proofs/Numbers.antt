@@ -5,6 +5,7 @@ use Rattle.std.specs.Prelude.{nat_lt, filter, slice_get, MatchOption}
 use Rattle.std.proofs.lemmas.Option.{slice_get-get_or, slice_get_past}
 use Rattle.std.specs.List.{range_with_len}
 use Rattle.std.proofs.lemmas.Bool.Decides.{nat_tests}
+use Rattle.std.proofs.lemmas.List.{nil_from_length}
 use Rattle.op_model.specs.Nodes.{Nodes, listed, enlist, unlist, none, count, in_order, listed-none, listed-enlist, listed-unlist, count-none, count-enlist, same_nodes, count-in_order, in_order-front}
 use Rattle.dir_header.specs.WordSets.{among}
 
@@ -43,12 +44,8 @@ count-among_more test n = rw (add-one n) (more (test n))
 pub none_listed : (s : Nodes) → ((q : ℕ) → listed s q ≡ false) → s ≡ none
 none_listed s off = same_nodes s none (λ q. off q ∙ sym (listed-none q))
 
-empty-list : (xs : List ℕ) → length xs ≡ 0 → xs ≡ []
-empty-list [] e = refl
-empty-list (x ∷ xs) e = absurd (omega arith)
-
 pub in_order-none : in_order none ≡ []
-in_order-none = empty-list (in_order none) (sym (count-in_order none) ∙ count-none)
+in_order-none = nil_from_length (in_order none) (sym (count-in_order none) ∙ count-none)
 
 -- the least number of a set stands first, before the others
 pub in_order-least : (s : Nodes) (k : ℕ) → listed s k ≡ true → ((q : ℕ) → listed s q ≡ true → k ≤ q) → in_order s ≡ k ∷ in_order (unlist s k)

@@ -1,6 +1,7 @@
 -- The lists of a plain directory hold no links, the list of a line is the set of its word, and a word that is put changes that list alone.
 use Rattle.std.proofs.Common.{◌≡◌, ℕ, ◌<◌, ◌≤◌, ◌^◌, true, false, List, [], ◌∷◌, length, map, replicate, zero, suc, refl, sym, ap, ◌∙◌, subst, arith, get_or, set}
 use Rattle.std.specs.Prelude.{sum_by}
+use Rattle.std.proofs.lemmas.Bool.{true≢false}
 use Rattle.std.proofs.lemmas.List.{get_or-map, get_or_read_under, map-set, length-map, length-set, length-replicate}
 use Rattle.std.proofs.lemmas.List.Sums.{sum_by-cons}
 use Rattle.op_model.specs.Nodes.{Nodes, none, listed, listed-none}
@@ -35,12 +36,9 @@ made_plain words lines links nodes is fits few = subst (λ ws. IsPlain ws links 
     fits = let e = held-nothing (map members (replicate lines 0)) in omega arith;
     below = λ m q there.
         let off = ap (λ ls. listed (get_or ls m none) q) (empty-lists lines) ∙ list-of-none lines m q in
-        absurd (apart (sym there ∙ off));
+        absurd (true≢false (sym there ∙ off));
   };
 })
-  where
-    apart : true ≡ false → ⊥
-    apart e = cc
 
 set-again : {A : Type 0} (xs : List A) (i : ℕ) (a b : A) → set (set xs i a) i b ≡ set xs i b
 set-again [] i a b = refl

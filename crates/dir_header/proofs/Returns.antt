@@ -2,13 +2,14 @@
 -- of the line with the fields, the list or the words that the call names.
 use Rattle.std.proofs.Common.{◌≡◌, ℕ, ◌-◌, ◌%◌, ◌<◌, Bool, true, false, not, ◌&&◌, ◌==◌, ◌↔◌, IsTrue, IfSome, Option, Some, None, List, [], length, refl, sym, ap, ◌∙◌, arith, get_or}
 use Rattle.std.specs.Prelude.{nat_lt}
+use Rattle.std.proofs.lemmas.Bool.{and_from, and_parts, eq-eqb, eqb-true, true≢false}
 use Rattle.std.proofs.lemmas.Bool.Decides.{nat_tests}
 use Rattle.std.specs.FinMap as fin
 use Rattle.line_map.specs.Sizes.{Sizes, home_of}
 use Rattle.op_model.specs.Nodes.{Nodes, listed, count, listed-none, none_of_count}
 use Rattle.op_model.specs.Operations.{Words}
 use Rattle.op_model.specs.Lines.{Header, nobody_listed}
-use Rattle.op_model.specs.Shares.{held_links, links_among}
+use Rattle.op_model.specs.Shares.{links_among}
 use Rattle.op_model.specs.Tables.Home.{lacks_link}
 use Rattle.op_model.specs.Tables.Remote.{is_invalidate}
 use Rattle.dir_header.specs.Sharers.{Directory, Charge, Linked, Unlinked, is_linked, list_at, held_in, free_in, needs_link, with_list}
@@ -25,10 +26,7 @@ some-listed s q there = by_count (count s == 0) refl
     by_count : (b : Bool) → (count s == 0) ≡ b → 0 < count s
     by_count true e =
         let zero : count s ≡ 0 = grind (arith, nat_tests) in
-        absurd (apart (sym there ∙ ap (λ t. listed t q) (none_of_count s zero) ∙ listed-none q))
-      where
-        apart : true ≡ false → ⊥
-        apart e = cc
+        absurd (true≢false (sym there ∙ ap (λ t. listed t q) (none_of_count s zero) ∙ listed-none q))
     by_count false e = grind (arith, nat_tests)
 
 linked-is : (charge : Charge) → is_linked charge ≡ true → charge ≡ Linked
@@ -96,24 +94,9 @@ module _ {D : Type 0} (dir : Directory) (sizes : Sizes) (node : ℕ) (headers : 
   -- a refusal, in the words of the directory and in those of the tables
   pub room-returns : (n : ℕ) (refused : Bool) → (refused ≡ true ↔ (IsTrue (needs_link dir p n) × (free_in dir ≡ 0))) → (refused ≡ true ↔ (lacks_link (room_in view) n (header_at view line) ≡ true))
   room-returns n refused is_room = (
-    (λ e. sym (lacks-is n) ∙ both (needs_link dir p n) (free_in dir == 0) (is_room.0 e).0 (none (free_in dir) (is_room.0 e).1)),
-    (λ lacks. is_room.1 (left (needs_link dir p n) (free_in dir == 0) (lacks-is n ∙ lacks), zero-of (free_in dir) (right (needs_link dir p n) (free_in dir == 0) (lacks-is n ∙ lacks)))),
+    (λ e. sym (lacks-is n) ∙ and_from (needs_link dir p n) (free_in dir == 0) (is_room.0 e).0 (eq-eqb (free_in dir) 0 (is_room.0 e).1)),
+    (λ lacks. let parts = and_parts (needs_link dir p n) (free_in dir == 0) (lacks-is n ∙ lacks) in is_room.1 (parts.0, eqb-true (free_in dir) 0 parts.1)),
   )
-    where
-      both : (a b : Bool) → a ≡ true → b ≡ true → (a && b) ≡ true
-      both a b e f = grind (arith, nat_tests)
-
-      left : (a b : Bool) → (a && b) ≡ true → a ≡ true
-      left a b e = grind (arith, nat_tests)
-
-      right : (a b : Bool) → (a && b) ≡ true → b ≡ true
-      right a b e = grind (arith, nat_tests)
-
-      none : (k : ℕ) → k ≡ 0 → (k == 0) ≡ true
-      none k e = grind (arith, nat_tests)
-
-      zero-of : (k : ℕ) → (k == 0) ≡ true → k ≡ 0
-      zero-of k e = grind (arith, nat_tests)
 
   pub acks-some : (n : ℕ) → (is_invalidate old.wait && listed (list_at dir p) n) ≡ true → 0 < old.acks
   acks-some n both =

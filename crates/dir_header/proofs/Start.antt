@@ -2,7 +2,7 @@
 use Rattle.std.proofs.Common.{◌≡◌, ℕ, zero, suc, ◌+◌, ◌*◌, ◌%◌, ◌<◌, ◌≤◌, true, false, cond, ◌↔◌, ◌⊎◌, List, [], None, inl, inr, length, replicate, refl, sym, ap, ◌∙◌, arith, get_or, unwrap_or}
 use Rattle.std.specs.Prelude.{is_some, sum_by}
 use Rattle.std.specs.List.{range_with_len}
-use Rattle.std.proofs.lemmas.Bool.{cases_lt}
+use Rattle.std.proofs.lemmas.Bool.{cases_lt, true≢false}
 use Rattle.std.proofs.lemmas.List.{get_or-replicate, length-replicate}
 use Rattle.std.proofs.lemmas.List.Sums.{sum_by-cons}
 use Rattle.std.specs.FinMap as fin
@@ -10,7 +10,7 @@ use Rattle.line_map.specs.Sizes.{Sizes, home_of}
 use Rattle.op_model.specs.Nodes.{none, listed, count, listed-none, count-none}
 use Rattle.op_model.specs.Operations.{Words}
 use Rattle.op_model.specs.Lines.{Header, is_pending}
-use Rattle.op_model.specs.Shares.{first_header, first_headers, header_of, links_in, header_in}
+use Rattle.op_model.specs.Shares.{first_header, first_headers, links_in, header_in}
 use Rattle.op_model.specs.Run.Runs.{start_share}
 use Rattle.dir_header.specs.Sharers.{Directory, Charge, Linked, held_by, held_in}
 use Rattle.dir_header.specs.Budgets.{BudgetView}
@@ -72,10 +72,7 @@ module _ {D : Type 0} (sizes : Sizes) (node : ℕ) (dir : Directory) (d : D) (he
   )
     where
       no : is_some (fin.get view.headers line) ≡ true → fin.get view.headers line ≡ None → ⊥
-      no there e = apart (sym there ∙ ap is_some e)
-        where
-          apart : true ≡ false → ⊥
-          apart e = cc
+      no there e = true≢false (sym there ∙ ap is_some e)
 
       at : is_some (fin.get view.headers line) ≡ true → (line < node * sizes.lines) ⊎ (node * sizes.lines ≤ line) → (line < node * sizes.lines + sizes.lines) ⊎ (node * sizes.lines + sizes.lines ≤ line) → home_of sizes line ≡ node
       at there (inl before) to = absurd (no there (get-before f (node * sizes.lines) sizes.lines line before))
@@ -99,11 +96,11 @@ module _ {D : Type 0} (sizes : Sizes) (node : ℕ) (dir : Directory) (d : D) (he
       lines = ap length fresh.lists ∙ length-replicate sizes.lines none;
       dir_kept = record {
         fits = let e = empty in omega arith;
-        below = λ m q there. absurd (apart (sym there ∙ ap (λ ls. listed (get_or ls m none) q) fresh.lists ∙ list-empty sizes.lines m q));
+        below = λ m q there. absurd (true≢false (sym there ∙ ap (λ ls. listed (get_or ls m none) q) fresh.lists ∙ list-empty sizes.lines m q));
       };
       own = own-lines;
       lists = λ line own. ap (λ h. h.list) (header-first line own) ∙ sym (ap (λ ls. get_or ls (line % sizes.lines) none) fresh.lists ∙ get_or-replicate sizes.lines (line % sizes.lines) none none (omega arith));
-      below = λ line q own there. absurd (apart (sym there ∙ ap (λ h. listed h.list q) (header-first line own) ∙ listed-none q));
+      below = λ line q own there. absurd (true≢false (sym there ∙ ap (λ h. listed h.list q) (header-first line own) ∙ listed-none q));
       acks = λ line own waits. ap (λ h. h.acks) (header-first line own) ∙ sym (ap (λ h. count h.list) (header-first line own) ∙ count-none);
       width = λ line own. ap (λ h. length h.memory) (header-first line own) ∙ length-replicate sizes.words 0;
       few = let e = nothing (λ h. cond (is_pending h) 1 0) refl in omega arith;
@@ -113,13 +110,10 @@ module _ {D : Type 0} (sizes : Sizes) (node : ℕ) (dir : Directory) (d : D) (he
       used = ap (λ b. b.used) budget-is ∙ sym (nothing (λ h. cond (is_pending h) 1 0) refl);
       limit = ap (λ b. b.limit) budget-is;
       victims = λ line own. ap (λ h. listed h.victims (line % sizes.lines)) holders-are ∙ listed-none (line % sizes.lines) ∙ sym (ap (λ h. stands_victim (standing_in dir.charge h)) (header-first line own) ∙ ap stands_victim linkless);
-      few = λ m there. absurd (apart (sym there ∙ ap (λ h. listed h.victims m) holders-are ∙ listed-none m));
+      few = λ m there. absurd (true≢false (sym there ∙ ap (λ h. listed h.victims m) holders-are ∙ listed-none m));
       pending = ap (λ h. h.pending) holders-are ∙ sym (nothing (λ h. cond (stands_pending (standing_in dir.charge h)) 1 0) (ap (λ s. cond (stands_pending s) 1 0) linkless));
     };
   }
     where
-      apart : true ≡ false → ⊥
-      apart e = cc
-
       empty : held_in dir ≡ 0
       empty = ap (sum_by (held_by dir.charge)) fresh.lists ∙ sum-empty dir.charge sizes.lines

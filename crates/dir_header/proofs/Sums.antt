@@ -1,7 +1,8 @@
 -- Sums over the headers of a finite map: where one line's header is replaced, a sum changes by what that header counts.
-use Rattle.std.proofs.Common.{◌≡◌, ℕ, ◌+◌, ◌<◌, ◌≤◌, Bool, true, false, cond, ◌&&◌, ◌==◌, List, [], ◌∷◌, length, Some, None, refl, sym, ap, ◌∙◌, arith}
+use Rattle.std.proofs.Common.{◌≡◌, ℕ, ◌+◌, ◌<◌, ◌≤◌, Bool, true, false, cond, ◌&&◌, ◌==◌, List, [], ◌∷◌, Some, None, refl, sym, ap, ◌∙◌, arith}
 use Rattle.std.specs.Prelude.{sum_by, nat_lt, T}
 use Rattle.std.proofs.lemmas.Bool.Decides.{nat_tests}
+use Rattle.std.proofs.lemmas.List.{nil_from_length}
 use Rattle.std.proofs.lemmas.Option.{same_Some}
 use Rattle.std.proofs.lemmas.List.Sums.{sum_by-cons}
 use Rattle.std.specs.Ordering.{nat_cmp}
@@ -99,11 +100,7 @@ module _ {X : Type 0} (g : X → ℕ) where
     sum-at-least m has = sum-has (fin.entries m) (sym (fin.get-entries m k) ∙ has)
 
 no-entries : {X : Type 0} → fin.entries (fin.empty {X = X} {R = nat_cmp}) ≡ []
-no-entries {X} = empty-list _ (sym (fin.len-entries fin.empty) ∙ fin.len-empty nat_cmp X)
-  where
-    empty-list : {A : Type 0} (xs : List A) → length xs ≡ 0 → xs ≡ []
-    empty-list [] e = refl
-    empty-list (x ∷ xs) e = absurd (omega arith)
+no-entries {X} = nil_from_length _ (sym (fin.len-entries fin.empty) ∙ fin.len-empty nat_cmp X)
 
 -- the first headers count nothing where one of them counts nothing
 module _ {X : Type 0} (g : X → ℕ) (k : ℕ) (v : X) (off : g v ≡ 0) where

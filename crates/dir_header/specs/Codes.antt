@@ -1,15 +1,16 @@
 -- How the parts of a home and of a directory are stored, so that each is a value.
-use Rattle.std.specs.Prelude.{◌≡◌, ℕ, Bool, true, false, List, refl}
+use Rattle.std.specs.Prelude.{ℕ, List, refl}
 use Rattle.std.specs.FinMap as fin
-use Rattle.std.specs.Coded.{Coded, code_by, coded×, coded_ℕ, coded_bool, coded_list}
+use Rattle.std.specs.Coded.{Coded, code_by, coded×, coded_ℕ, coded_list}
 use Rattle.line_map.specs.Sizes.{Sizes}
+use Rattle.line_map.specs.Codes.{sizes_code}
 use Rattle.op_model.specs.Nodes.{Nodes}
 pub use Rattle.op_model.specs.Codes.{nodes_code}
-use Rattle.op_model.specs.Codes.{sizes_code, header_code, charge_code}
+use Rattle.op_model.specs.Codes.{header_code, charge_code}
 use Rattle.op_model.specs.Shares.{Headers}
 use Rattle.dir_header.specs.Plain.{PlainView}
 use Rattle.dir_header.specs.Standings.{HoldersView}
-use Rattle.dir_header.specs.Sharers.{Charge, Linked, Unlinked, is_linked}
+use Rattle.dir_header.specs.Sharers.{Charge}
 use Rattle.dir_header.specs.HomeSides.{HomeView}
 
 abbrev pub plain_code : Coded PlainView

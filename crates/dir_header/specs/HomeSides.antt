@@ -1,7 +1,5 @@
 -- The home's part of a node as contracts see it, in the words of the state: headers of its lines, and its directory.
-use Rattle.std.specs.Prelude.{◌≡◌, ℕ, ◌-◌, ◌*◌, ◌<◌, ◌≤◌, ◌%◌, ◌↔◌, Bool, true, ◌&&◌, if◌then◌else◌, List, length, replicate, is_some, None}
-use Rattle.std.specs.List.{range_with_len}
-use Rattle.std.specs.Ordering.{nat_cmp}
+use Rattle.std.specs.Prelude.{◌≡◌, ℕ, ◌-◌, ◌<◌, ◌≤◌, ◌%◌, ◌↔◌, Bool, true, ◌&&◌, if◌then◌else◌, length, replicate, is_some}
 use Rattle.std.specs.FinMap as fin
 use Rattle.line_map.specs.Sizes.{Sizes, home_of}
 use Rattle.op_model.specs.Nodes.{Nodes, listed, unlist, count, none}

@@ -72,11 +72,10 @@ impl Holders {
         self.victims.least()
     }
 
-    /// The idle line that holds a link at a place among all such, counted from 0, in increasing order.
-    pub(crate) fn at(&self, i: u32) -> Option<u32>
-        ensures value { result ≡ slice_get (in_order self.now.victims) i }
-        ensures below { IfSome result (λ m. m < 4096) }
+    /// The idle lines that hold a link.
+    pub(crate) fn victims(&self) -> LineSet
+        ensures { result ≡ self.now.victims }
     {
-        self.victims.at(i)
+        self.victims.copied()
     }
 }

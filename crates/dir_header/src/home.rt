@@ -17,6 +17,7 @@ use crate::budget::Budget;
 use crate::header::{Header, acks_due, acks_left, standing_by};
 use crate::holders::Holders;
 use crate::sharers::{NoRoom, Sharers};
+use crate::victim_list::Victims;
 use line_map::{Body, Machine};
 use op_model::{Full, NoMemory, Wait};
 use std::alloc::Global;
@@ -137,12 +138,22 @@ impl<D: Sharers> HomeSide<D> {
         Some(self.node * self.cfg.lines() + m)
     }
 
-    /// The line at a place, counted from 0, among all that hold a link and aren't pending, in increasing order.
+    /// The lines that hold a link and aren't pending, each handed out once, in increasing order. A call takes the same time for every home.
+    pub fn victims(&self) -> Victims
+        ensures { result ≡ filter (is_victim self.now) (lines_of self.now.sizes self.now.node) }
+    {
+        Victims::new(self.holders.victims(), self.node * self.cfg.lines())
+    }
+
+    /// The line at a place, counted from 0, among all that hold a link and aren't pending, in increasing order. The lines before it are passed one by one: to go through all of them take `victims`.
     pub fn victim_at(&self, i: u32) -> Option<u32>
         ensures { result ≡ slice_get (filter (is_victim self.now) (lines_of self.now.sizes self.now.node)) i }
     {
-        let m = self.holders.at(i)?;
-        Some(self.node * self.cfg.lines() + m)
+        let mut victims = self.victims();
+        for _ in 0..i {
+            victims.next()?;
+        }
+        victims.next()
     }
 
     /// Sets whether the home's own cache may hold a line.
@@ -276,6 +287,6 @@ impl<D: Sharers> HomeSide<D> {
         ensures value { result ≡ g % self.now.sizes.lines }
         ensures small { result < 4096 }
     {
-        g % self.cfg.lines()
+        g - self.node * self.cfg.lines()
     }
 }

@@ -11,6 +11,7 @@ mod plain;
 mod sharers;
 #[cfg(test)]
 mod tests;
+mod victim_list;
 mod words;
 
 pub use budget::Budget;
@@ -20,3 +21,4 @@ pub use listed::Listed;
 pub use op_model::{Grantee, Wait};
 pub use plain::PlainDir;
 pub use sharers::{NoRoom, Sharers};
+pub use victim_list::Victims;

@@ -1,6 +1,6 @@
 //! A set of lines in which the least one is found without a scan.
 
-ghost use Rattle.std.specs.Prelude.{◌≡◌, ◌<◌, [], ◌∷◌, slice_get, IfSome, MatchOption};
+ghost use Rattle.std.specs.Prelude.{◌≡◌, ◌<◌, [], ◌∷◌, IfSome, MatchOption};
 ghost use Rattle.op_model.specs.Nodes.{none, enlist, unlist, in_order};
 
 use crate::words;
@@ -73,19 +73,13 @@ impl LineSet {
         Some(64 * place + words::least(self.words[place as usize]))
     }
 
-    /// The line at a place of the set in increasing order, counted from 0.
-    pub(crate) fn at(&self, i: u32) -> Option<u32>
-        ensures value { result ≡ slice_get (in_order self.now) i }
-        ensures below { IfSome result (λ m. m < 4096) }
+    /// The same set again. A call takes the time of copying 520 bytes.
+    pub(crate) fn copied(&self) -> LineSet
+        ensures { result ≡ self.now }
     {
-        let mut rest = LineSet {
+        LineSet {
             words: self.words,
             some: self.some,
-        };
-        for _ in 0..i {
-            let least = rest.least()?;
-            rest.remove(least);
         }
-        rest.least()
     }
 }

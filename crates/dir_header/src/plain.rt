@@ -3,6 +3,7 @@
 ghost use Rattle.std.specs.Prelude.{◌≡◌, ◌≤◌, None, IfOk, replicate};
 ghost use Rattle.op_model.specs.Nodes.{none};
 ghost use Rattle.dir_header.specs.Plain.{plain_directory};
+ghost use Rattle.dir_header.specs.Sharers.{IsDirectory};
 
 use crate::listed::Listed;
 use crate::sharers::{NoRoom, Sharers};
@@ -53,6 +54,8 @@ impl Sharers for PlainDir {
     ghost directory = { plain_directory };
 
     ghost link_line = { λ dir link. None };
+
+    ghost is_sound = { λ dir. IsDirectory (plain_directory dir) };
 
     fn lines(&self) -> u32 {
         self.lists.len() as u32

@@ -18,10 +18,14 @@ pub trait Sharers: Drop {
     // The line in whose list a link stands, and none where the link is free.
     ghost link_line: { Self → ℕ → Option ℕ };
 
+    // What holds of each directory of this kind: of linked lists, that each link is free or in exactly one line's list.
+    ghost is_sound: { Self → Type 0 };
+
     /// How many lines there are.
     fn lines(&self) -> u32
         ensures value { result ≡ length (directory self.now).lists }
-        ensures kept { IsDirectory (directory self.now) };
+        ensures kept { IsDirectory (directory self.now) }
+        ensures sound { is_sound self.now };
 
     /// Whether a node is listed for a line.
     fn contains(&self, m: u32, node: u32) -> bool

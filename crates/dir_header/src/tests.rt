@@ -1,9 +1,10 @@
-//! The lists of a directory after the calls of the worked row on the pool of links, a budget to its end, and a line's way through a home.
+//! The lists of a directory after the calls of the worked row on the pool of links, a budget to its end, a line's way through a home, and lines handed out one by one.
 
 ghost use Rattle.std.specs.Prelude.{◌≡◌, length};
 ghost use Rattle.line_map.specs.Sizes.{home_of};
 
-use crate::{Budget, HomeSide, PlainDir, Sharers};
+use crate::line_set::LineSet;
+use crate::{Budget, HomeSide, PlainDir, Sharers, Victims};
 use line_map::{Body, Machine};
 use op_model::{Full, Grantee, Wait};
 use std::process::Abort;
@@ -150,5 +151,35 @@ fn homes(rt: HostRuntime) -> Result<(), Fail> {
     assert_eq!(rt; home.dir().count(0), 1);
     assert!(rt; !home.pending_holds());
     assert_eq!(rt; (home.least_victim(), home.victim_at(0)), (None, None));
+    assert_eq!(rt; home.victims().next(), None);
     Ok(())
+}
+
+/// Sets of lines, each with the number of line 0 and with the lines that are handed out.
+const VICTIMS: [(&[u32], u32, &[u32]); 4] = [
+    (&[], 8192, &[]),
+    (&[0], 0, &[0]),
+    (&[4095, 64, 0, 63], 4096, &[4096, 4159, 4160, 8191]),
+    (&[70, 6, 70], 262144, &[262150, 262214]),
+];
+
+fn check_victims(rt: &impl Abort, lines: &[u32], first: u32, want: &[u32]) {
+    let mut left = LineSet::new();
+    for m in lines.iter() {
+        assert!(rt; *m < 4096);
+        left.insert(*m);
+    }
+    assert!(rt; first <= 262144);
+    let mut victims = Victims::new(left, first);
+    for line in want.iter() {
+        assert_eq!(rt; victims.next(), Some(*line));
+    }
+    assert_eq!(rt; (victims.next(), victims.next()), (None, None));
+}
+
+#[test]
+fn victims_in_order(rt: HostRuntime) {
+    for (lines, first, want) in VICTIMS.iter() {
+        check_victims(&rt, lines, *first, want);
+    }
 }

@@ -1,33 +1,17 @@
 -- Which row of a Get is done, and what the home answers then.
 use Rattle.std.proofs.Common.{◌≡◌, ℕ, Bool, true, false, cond, not, ◌&&◌, refl, sym, ap, ◌∙◌, arith}
+use Rattle.std.proofs.lemmas.Bool.{cond-true, cond-false, and_from, and_right, and_left, and_parts}
 use Rattle.op_model.specs.declared.messages.NakCause.TheVariants.{Pending, NoLink, Budget}
 use Rattle.op_model.specs.Lines.{Header, LineShare, Room, NoService, Outcome, is_idle}
 use Rattle.op_model.specs.Shares.{line_share, header_of, header_in, Copies}
 use Rattle.op_model.specs.Tables.Home.{on_get, wants_victim, lacks_link, refuse, share_home_copy, share_memory, forward_get}
+use Rattle.op_model.proofs.Plain.{three_parts}
 use Rattle.cpu_cache.specs.Processors.{ProcView}
 use Rattle.dir_header.specs.HomeSides.{HomeView, header_at, room_in}
 use Rattle.node_share.specs.Parts.{share_of}
 use Rattle.home_get.specs.declared.get.GetOut.{GetOut}
 use Rattle.home_get.specs.declared.get.GetOut.TheVariants.{NakAndReclaim}
 use Rattle.home_get.specs.Answers.{answer_by, get_answer}
-
-yes : {A : Type 0} (b : Bool) (x y : A) → b ≡ true → cond b x y ≡ x
-yes true x y e = refl
-yes false x y e = cc
-
-no : {A : Type 0} (b : Bool) (x y : A) → b ≡ false → cond b x y ≡ y
-no true x y e = cc
-no false x y e = refl
-
-both-on : (a b : Bool) → a ≡ true → b ≡ true → (a && b) ≡ true
-both-on a b e f = λ i. e i && f i
-
-last-off : (a b : Bool) → b ≡ false → (a && b) ≡ false
-last-off true b e = e
-last-off false b e = refl
-
-first-off : (a b : Bool) → a ≡ false → (a && b) ≡ false
-first-off a b e = ap (λ k. k && b) e
 
 -- a refusal for want of a link
 abbrev pub for_link : Room → ℕ → LineShare → Outcome
@@ -48,43 +32,43 @@ module _ (room : Room) (src : ℕ) (share : LineShare) where
 
   pub get-pending : is_idle share.header.wait ≡ false → on_get room src share ≡ refuse src Pending share
   unfolding on_get
-  get-pending waits = yes (not (is_idle share.header.wait)) _ _ (ap not waits)
+  get-pending waits = cond-true (not (is_idle share.header.wait)) _ _ (ap not waits)
 
   module _ (idle : is_idle share.header.wait ≡ true) where
     pub get-holds : lacks ≡ true → room.link_pending ≡ true → on_get room src share ≡ refuse src NoLink share
     unfolding on_get
-    get-holds l k = no (not (is_idle share.header.wait)) _ _ (ap not idle) ∙ yes (lacks && room.link_pending) _ _ (both-on lacks room.link_pending l k)
+    get-holds l k = cond-false (not (is_idle share.header.wait)) _ _ (ap not idle) ∙ cond-true (lacks && room.link_pending) _ _ (and_from lacks room.link_pending l k)
 
     pub get-full : lacks ≡ true → room.link_pending ≡ false → room.full ≡ true → on_get room src share ≡ refuse src Budget share
     unfolding on_get
     get-full l k f =
-        no (not (is_idle share.header.wait)) _ _ (ap not idle) ∙ no (lacks && room.link_pending) _ _ (last-off lacks room.link_pending k) ∙ yes (lacks && room.full) _ _ (both-on lacks room.full l f)
+        cond-false (not (is_idle share.header.wait)) _ _ (ap not idle) ∙ cond-false (lacks && room.link_pending) _ _ (and_right lacks room.link_pending k) ∙ cond-true (lacks && room.full) _ _ (and_from lacks room.full l f)
 
     pub get-wants : lacks ≡ true → room.link_pending ≡ false → room.full ≡ false → on_get room src share ≡ refuse src NoLink share
     unfolding on_get
     get-wants l k f =
-        no (not (is_idle share.header.wait)) _ _ (ap not idle) ∙ no (lacks && room.link_pending) _ _ (last-off lacks room.link_pending k) ∙ no (lacks && room.full) _ _ (last-off lacks room.full f) ∙ yes lacks _ _ l
+        cond-false (not (is_idle share.header.wait)) _ _ (ap not idle) ∙ cond-false (lacks && room.link_pending) _ _ (and_right lacks room.link_pending k) ∙ cond-false (lacks && room.full) _ _ (and_right lacks room.full f) ∙ cond-true lacks _ _ l
 
     pub get-lacks : lacks ≡ true → on_get room src share ≡ for_link room src share
     get-lacks l = by room.link_pending room.full refl refl
       where
         by : (k f : Bool) → room.link_pending ≡ k → room.full ≡ f → on_get room src share ≡ for_link room src share
-        by true f e e' = get-holds l e ∙ sym (yes room.link_pending _ _ e)
-        by false true e e' = get-full l e e' ∙ sym (no room.link_pending _ _ e ∙ yes room.full _ _ e')
-        by false false e e' = get-wants l e e' ∙ sym (no room.link_pending _ _ e ∙ no room.full _ _ e')
+        by true f e e' = get-holds l e ∙ sym (cond-true room.link_pending _ _ e)
+        by false true e e' = get-full l e e' ∙ sym (cond-false room.link_pending _ _ e ∙ cond-true room.full _ _ e')
+        by false false e e' = get-wants l e e' ∙ sym (cond-false room.link_pending _ _ e ∙ cond-false room.full _ _ e')
 
     module _ (l : lacks ≡ false) where
       linked : on_get room src share ≡ cond (share.header.dirty && share.header.local) (share_home_copy src share) (cond (share.header.dirty && room.full) (refuse src Budget share) (cond share.header.dirty (forward_get src share) (share_memory src share)))
       unfolding on_get
       linked =
-          no (not (is_idle share.header.wait)) _ _ (ap not idle) ∙ no (lacks && room.link_pending) _ _ (first-off lacks room.link_pending l) ∙ no (lacks && room.full) _ _ (first-off lacks room.full l) ∙ no lacks _ _ l
+          cond-false (not (is_idle share.header.wait)) _ _ (ap not idle) ∙ cond-false (lacks && room.link_pending) _ _ (and_left lacks room.link_pending l) ∙ cond-false (lacks && room.full) _ _ (and_left lacks room.full l) ∙ cond-false lacks _ _ l
 
       pub get-copy : share.header.dirty ≡ true → share.header.local ≡ true → on_get room src share ≡ share_home_copy src share
-      get-copy dirty local = linked ∙ yes (share.header.dirty && share.header.local) _ _ (both-on share.header.dirty share.header.local dirty local)
+      get-copy dirty local = linked ∙ cond-true (share.header.dirty && share.header.local) _ _ (and_from share.header.dirty share.header.local dirty local)
 
       pub get-owner : share.header.dirty ≡ true → share.header.local ≡ false → on_get room src share ≡ cond room.full (refuse src Budget share) (forward_get src share)
       get-owner dirty local =
-          linked ∙ no (share.header.dirty && share.header.local) _ _ (last-off share.header.dirty share.header.local local)
+          linked ∙ cond-false (share.header.dirty && share.header.local) _ _ (and_right share.header.dirty share.header.local local)
           ∙ ap (λ b. cond (b && room.full) (refuse src Budget share) (cond b (forward_get src share) (share_memory src share))) dirty
 
       pub get-memory : share.header.dirty ≡ false → on_get room src share ≡ share_memory src share
@@ -123,10 +107,7 @@ module _ (room : Room) (src : ℕ) (header : Header) where
 
   -- where a link is wanted links count
   pub counts : lacks_link room src header ≡ true → room.linked ≡ true
-  counts l = by room.linked (not (Rattle.op_model.specs.Nodes.listed header.list src)) (not (Rattle.op_model.specs.Lines.nobody_listed header.list)) (not room.link_free) l
-    where
-      by : (a b c d : Bool) → ((a && b && c) && d) ≡ true → a ≡ true
-      by a b c d e = grind arith
+  counts l = (three_parts room.linked (not (Rattle.op_model.specs.Nodes.listed header.list src)) (not (Rattle.op_model.specs.Lines.nobody_listed header.list)) (and_parts (room.linked && not (Rattle.op_model.specs.Nodes.listed header.list src) && not (Rattle.op_model.specs.Lines.nobody_listed header.list)) (not room.link_free) l).0).0
 
   pub holds-is : lacks_link room src header ≡ true → (room.linked && room.link_pending) ≡ room.link_pending
   holds-is l = ap (λ b. b && room.link_pending) (counts l)

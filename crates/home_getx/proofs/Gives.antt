@@ -1,11 +1,11 @@
 -- Rows of a GetX, call by call.
-use Rattle.std.proofs.Common.{◌≡◌, ℕ, ◌-◌, Bool, true, false, cond, not, ◌&&◌, [], ◌∷◌, refl, sym, ap, ◌∙◌}
+use Rattle.std.proofs.Common.{◌≡◌, ℕ, ◌-◌, true, false, cond, not, ◌&&◌, [], ◌∷◌, sym, ap, ◌∙◌}
+use Rattle.std.proofs.lemmas.Bool.{cond-true, cond-false}
 use Rattle.line_map.specs.Sizes.{home_of}
 use Rattle.op_model.specs.declared.messages.Msg.TheVariants as msg
 use Rattle.op_model.specs.declared.messages.NakCause.TheVariants.{Pending, Budget}
 use Rattle.op_model.specs.declared.state.Grantee.TheVariants.{Node}
-use Rattle.op_model.specs.declared.state.Wait.{Wait}
-use Rattle.op_model.specs.declared.state.Wait.TheVariants.{Idle, Invalidate, ForwardGet, ForwardGetX}
+use Rattle.op_model.specs.declared.state.Wait.TheVariants.{Invalidate, ForwardGetX}
 use Rattle.op_model.specs.Messages.{PutX, FwdGetX}
 use Rattle.op_model.specs.Nodes.{only, unlist, listed, count, count-unlist}
 use Rattle.op_model.specs.Operations.{Words}
@@ -13,7 +13,6 @@ use Rattle.op_model.specs.Lines.{Absent, Header, LineShare, Room, NoService, Out
 use Rattle.op_model.specs.Events.Node.{messages}
 use Rattle.op_model.specs.Tables.Home.{on_getx, give_home_copy, give_memory, forward_getx, invalidate_for, refuse, no_other}
 use Rattle.op_model.specs.Shares.{copy_in}
-use Rattle.op_model.specs.Tables.Remote.{is_invalidate}
 use Rattle.cpu_cache.specs.Caches.{CacheView, with_copy}
 use Rattle.cpu_cache.specs.Processors.{ProcView}
 use Rattle.dir_header.specs.HomeSides.{HomeView, header_at, with_header, relisted, unlisted, made_pending, room_in}
@@ -22,12 +21,6 @@ use Rattle.node_share.specs.Parts.{share_of, AreCopies, DoesRow, sent}
 use Rattle.node_share.proofs.Copies.{copy-kept}
 use Rattle.node_share.proofs.Homes.{Puts, puts-once, puts-then, puts-read}
 use Rattle.node_share.proofs.Rows.{home-row}
-
-pub idle-calm : (wait : Wait) → is_idle wait ≡ true → is_invalidate wait ≡ false
-idle-calm Idle e = refl
-idle-calm (Invalidate g) e = cc
-idle-calm (ForwardGet r) e = refl
-idle-calm (ForwardGetX r) e = refl
 
 module _ {D : Type 0} (home : HomeView D) (cache : CacheView) (src line : ℕ) (out : SendList) where
   abbrev h : Header
@@ -98,40 +91,32 @@ module _ {D : Type 0} (home : HomeView D) (cache : CacheView) (src line : ℕ) (
 
 -- which row is done
 module _ (room : Room) (src : ℕ) (share : LineShare) where
-  yes : {A : Type 0} (b : Bool) (x y : A) → b ≡ true → cond b x y ≡ x
-  yes true x y e = refl
-  yes false x y e = cc
-
-  no : {A : Type 0} (b : Bool) (x y : A) → b ≡ false → cond b x y ≡ y
-  no true x y e = cc
-  no false x y e = refl
-
   pub getx-pending : is_idle share.header.wait ≡ false → on_getx room src share ≡ refuse src Pending share
   unfolding on_getx
-  getx-pending waits = yes (not (is_idle share.header.wait)) _ _ (ap not waits)
+  getx-pending waits = cond-true (not (is_idle share.header.wait)) _ _ (ap not waits)
 
   module _ (idle : is_idle share.header.wait ≡ true) where
     pub getx-copy : share.header.dirty ≡ true → share.header.local ≡ true → on_getx room src share ≡ give_home_copy src share
     unfolding on_getx
     getx-copy dirty local =
-        no (not (is_idle share.header.wait)) _ _ (ap not idle)
-        ∙ yes (share.header.dirty && share.header.local) _ _ ((λ i. dirty i && local i))
+        cond-false (not (is_idle share.header.wait)) _ _ (ap not idle)
+        ∙ cond-true (share.header.dirty && share.header.local) _ _ ((λ i. dirty i && local i))
 
     pub getx-owner : share.header.dirty ≡ true → share.header.local ≡ false → on_getx room src share ≡ cond room.full (refuse src Budget share) (forward_getx src share)
     unfolding on_getx
     getx-owner dirty local =
-        no (not (is_idle share.header.wait)) _ _ (ap not idle)
-        ∙ no (share.header.dirty && share.header.local) _ _ ((λ i. dirty i && local i))
+        cond-false (not (is_idle share.header.wait)) _ _ (ap not idle)
+        ∙ cond-false (share.header.dirty && share.header.local) _ _ ((λ i. dirty i && local i))
         ∙ ap (λ b. cond (b && room.full) (refuse src Budget share) (cond b (forward_getx src share) (cond (no_other src share.header.list) (give_memory src share) (cond room.full (refuse src Budget share) (invalidate_for src share))))) dirty
 
     getx-clean : share.header.dirty ≡ false → on_getx room src share ≡ cond (no_other src share.header.list) (give_memory src share) (cond room.full (refuse src Budget share) (invalidate_for src share))
     unfolding on_getx
     getx-clean clean =
-        no (not (is_idle share.header.wait)) _ _ (ap not idle)
+        cond-false (not (is_idle share.header.wait)) _ _ (ap not idle)
         ∙ ap (λ b. cond (b && share.header.local) (give_home_copy src share) (cond (b && room.full) (refuse src Budget share) (cond b (forward_getx src share) (cond (no_other src share.header.list) (give_memory src share) (cond room.full (refuse src Budget share) (invalidate_for src share)))))) clean
 
     pub getx-memory : share.header.dirty ≡ false → no_other src share.header.list ≡ true → on_getx room src share ≡ give_memory src share
-    getx-memory clean alone = getx-clean clean ∙ yes (no_other src share.header.list) _ _ alone
+    getx-memory clean alone = getx-clean clean ∙ cond-true (no_other src share.header.list) _ _ alone
 
     pub getx-called : share.header.dirty ≡ false → no_other src share.header.list ≡ false → on_getx room src share ≡ cond room.full (refuse src Budget share) (invalidate_for src share)
-    getx-called clean others = getx-clean clean ∙ no (no_other src share.header.list) _ _ others
+    getx-called clean others = getx-clean clean ∙ cond-false (no_other src share.header.list) _ _ others

@@ -20,6 +20,7 @@ use Rattle.op_model.specs.Tables.Remote.{waits_write, is_invalidate}
 use Rattle.op_model.specs.OwnPart.{IsOwnPart, IsOwnWait, IsOutstanding}
 use Rattle.op_model.specs.Shares.{line_share, copy_of, header_of, is_set_empty}
 use Rattle.op_model.specs.Programs.{IsProgramOf}
+use Rattle.op_model.proofs.Shares.{write-outstanding, want-stays}
 use Rattle.cpu_cache.specs.Effects.{effect_of, nothing, own_effect}
 use Rattle.cpu_cache.specs.declared.effects.Effect.{Effect}
 use Rattle.cpu_cache.specs.Caches.{CacheView, with_copy, is_set_taken}
@@ -29,8 +30,8 @@ use Rattle.msg_words.specs.SendList.{SendList}
 use Rattle.node_share.specs.Parts.{share_of, row_at, AreCopies, DoesRow, sent, copy_done}
 use Rattle.node_share.proofs.Copies.{copy-kept}
 use Rattle.node_share.proofs.Homes.{Puts, puts-once, puts-then, puts-as}
-use Rattle.node_share.proofs.Rows.{own-row, own-outcome, own-done, want-kept}
-use Rattle.node_share.proofs.Wants.{sent-none, effect-none, effect-own, on-line, want-is, want-gone, write-any, write-is, done-write, set-untaken, set-unserved}
+use Rattle.node_share.proofs.Rows.{own-row, own-outcome, own-done}
+use Rattle.node_share.proofs.Wants.{sent-none, effect-none, effect-own, on-line, want-is, want-gone, write-is, done-write, set-untaken, set-unserved}
 
 pub last-one : (acks : ℕ) → acks ≤ 1 → acks - 1 ≡ 0
 last-one acks few = omega arith
@@ -78,7 +79,7 @@ module _ {D : Type 0} (home : HomeView D) (cache : CacheView) (proc : ProcView) 
 
   quiet-does : (home' : HomeView D) (header : Header) (sends : List (ℕ × Rattle.op_model.specs.Messages.Content)) (out' : SendList) → Puts home home' line header → on_inv_ack src before ≡ quiet header sends → out' ≡ sent out (Rattle.op_model.specs.Events.Node.messages line sends) → Does home' proc cache out'
   quiet-does home' header sends out' puts is out-is =
-      own-row home home' proc proc cache.copies cache.copies line out out' (on_inv_ack src) (quiet header sends) own is puts (sym (copy-kept cache.copies line held)) refl (sym (want-kept home.sizes proc.want line)) out-is
+      own-row home home' proc proc cache.copies cache.copies line out out' (on_inv_ack src) (quiet header sends) own is puts (sym (copy-kept cache.copies line held)) refl (sym (want-stays home.sizes proc.want line)) out-is
 
   quiet-tells : (header : Header) (sends : List (ℕ × Rattle.op_model.specs.Messages.Content)) → on_inv_ack src before ≡ quiet header sends → Tells nothing
   quiet-tells header sends is =
@@ -179,7 +180,7 @@ module _ {D : Type 0} (home : HomeView D) (cache : CacheView) (proc : ProcView) 
 
     module _ (w : Want) (wanted : proc.want ≡ Some w) where
       pub write-on : line_of home.sizes w.op.word ≡ line
-      write-on = on-line home.sizes proc.want line w wanted (write-any want (own-write charge part waits me))
+      write-on = on-line home.sizes proc.want line w wanted (write-outstanding want (own-write charge part waits me))
 
       pub write-kind : is_load w.op.kind ≡ false
       write-kind = write-is want w (want-is home.sizes proc.want line w wanted write-on) (own-write charge part waits me)

@@ -12,10 +12,10 @@ use Rattle.op_model.specs.Lines.{Outcome}
 use Rattle.op_model.specs.Messages.{Content, class_of, message, msg_content-message, same_class}
 use Rattle.op_model.specs.Shares.{Lanes, State, Trace, header_of, line_share, program, put_share, share_at}
 use Rattle.op_model.specs.Tables.Processor.{call_in}
+use Rattle.op_model.proofs.Plain.{eqb-self}
+use Rattle.op_model.proofs.Shares.{same_class-is}
 use Rattle.line_invariant.specs.Line.{addressed}
-use Rattle.line_invariant.proofs.Basics.{eq-self}
 use Rattle.one_history.proofs.Events.{header-kept}
-use Rattle.one_history.proofs.Project.{one_class}
 use Rattle.one_history.proofs.Shares as shares
 
 -- messages of one line
@@ -87,7 +87,7 @@ one-taken state src dst class m rest front a b k = go (b == dst) (a == src) (sam
     go true true true x y z =
         let is_dst : b ≡ dst = grind (arith, nat_tests) in
         let is_src : a ≡ src = grind (arith, nat_tests) in
-        let is_class : k ≡ class = one_class k class z in
+        let is_class : k ≡ class = same_class-is k class z in
         let same : state.lane a b k ≡ state.lane src dst class = (λ i. state.lane (is_src i) (is_dst i) (is_class i)) in
         ap (drop 1) (same ∙ front)
     go true true false x y z = refl
@@ -104,4 +104,4 @@ row-kept sizes state lane dst line g outcome here same at =
     let own : outcome.share ≡ line_share sizes (state.share dst) line = same ∙ ap (λ k. record (share_at sizes state dst line) { header = header_of sizes (state.share k) line }) (sym whose) in
     let kept = header-kept sizes (dst == home_of sizes line) line outcome.done outcome.share (state.share dst) own g in
     subst (λ k. header_of sizes ((after_row_of sizes dst line outcome (record state { lane = lane })).share k) g ≡ header_of sizes (state.share k) g) home
-    (ap (λ c. header_of sizes (cond c (put_share sizes (dst == home_of sizes line) line outcome.done outcome.share (state.share dst)) (state.share dst)) g) (eq-self dst) ∙ kept)
+    (ap (λ c. header_of sizes (cond c (put_share sizes (dst == home_of sizes line) line outcome.done outcome.share (state.share dst)) (state.share dst)) g) (eqb-self dst) ∙ kept)

@@ -7,12 +7,11 @@ use Rattle.std.specs.FinMap as fin
 use Rattle.std.specs.FinMap.{find}
 use Rattle.line_map.specs.Sizes.{Sizes, home_of, line_of}
 use Rattle.op_model.specs.Events.Step.{departures, is_departure}
-use Rattle.op_model.specs.Lines.{is_pending}
+use Rattle.op_model.specs.Lines.{is_pending, is_outstanding}
 use Rattle.op_model.specs.Messages.{Content, FAck, FwdGet, FwdGetX, Get, GetX, Inv, InvAck, Nak, Nakc, Put, PutX, Rpl, ShWb, Wb, msg_content}
 use Rattle.op_model.specs.Run.Bounds.{lane_bound, reply_bound, request_bound}
 use Rattle.op_model.specs.Run.Runs.{Past, run}
 use Rattle.op_model.specs.Shares.{Charge, State, Trace, header_of, pending_lines, want_on}
-use Rattle.op_model.specs.Tables.Remote.{waits_any}
 use Rattle.op_model.specs.declared.events.Class.TheVariants.{Reply, Request}
 use Rattle.op_model.specs.declared.events.Class.{Class}
 use Rattle.op_model.specs.declared.events.Event.{Event}
@@ -73,12 +72,12 @@ unfolding begun_lines
 begun-one sizes None = omega arith
 begun-one sizes (Some want) = omega arith
 
-begun-wanted : (sizes : Sizes) (want : Option Want) (line : ℕ) → one_if (waits_any (want_on sizes want line)) ≤ amount (λ u. 1) (find nat_cmp line (begun_lines sizes want))
+begun-wanted : (sizes : Sizes) (want : Option Want) (line : ℕ) → one_if (is_outstanding (want_on sizes want line)) ≤ amount (λ u. 1) (find nat_cmp line (begun_lines sizes want))
 unfolding begun_lines
 begun-wanted sizes None line = omega arith
 begun-wanted sizes (Some want) line = at (line_of sizes want.op.word)
   where
-    at : (its : ℕ) → one_if (waits_any (cond (its == line) (Some want) None)) ≤ amount (λ u. 1) (find nat_cmp line (one_line its))
+    at : (its : ℕ) → one_if (is_outstanding (cond (its == line) (Some want) None)) ≤ amount (λ u. 1) (find nat_cmp line (one_line its))
     at its = grind (arith, nat_tests)
 
 module _ (charge : Charge) (trace : Trace) (past : Past) (sound : IsSound trace past) where
@@ -93,7 +92,7 @@ module _ (charge : Charge) (trace : Trace) (past : Past) (sound : IsSound trace 
   none-of test ms h = let s = spread {X = Unit {0}} (λ u. 0) (λ m. one_if (test m)) [] ms (λ line. let e = h line in omega arith) in omega arith
 
   -- of the line that a node has begun there is one message at most
-  of-begun : (n : ℕ) (test : Content → Bool) (ms : List Msg) → ((line : ℕ) → many test (of_line line ms) ≤ one_if (waits_any (want_on sizes (state.share n).want line))) → kind test ms ≤ 1
+  of-begun : (n : ℕ) (test : Content → Bool) (ms : List Msg) → ((line : ℕ) → many test (of_line line ms) ≤ one_if (is_outstanding (want_on sizes (state.share n).want line))) → kind test ms ≤ 1
   of-begun n test ms h =
       let s = spread (λ u. 1) (λ m. one_if (test m)) (begun_lines sizes (state.share n).want) ms (λ line. let a = h line in let b = begun-wanted sizes (state.share n).want line in omega arith) in
       let o = begun-one sizes (state.share n).want in

@@ -23,6 +23,7 @@ use Rattle.op_model.specs.Shares.{Charge, Lanes, Share, State, Trace, conflicts,
 use Rattle.op_model.specs.Tables.Home.{wants_victim}
 use Rattle.op_model.specs.Tables.Processor.{begin_op, call_in, evict, hit, holds_link, reclaim, serves}
 use Rattle.op_model.specs.Tables.Remote.{asks_well, meets, on_message}
+use Rattle.op_model.proofs.Plain.{three_parts}
 use Rattle.line_invariant.proofs.Away.{away-begin, away-evict}
 use Rattle.line_invariant.proofs.Basics.{if-either}
 use Rattle.one_history.specs.Sound.{IsNextOp, IsSound}
@@ -84,9 +85,6 @@ finds-invs : (line : ℕ) (nodes : List ℕ) (test : Content → Bool) → test 
 finds-invs line [] test e = refl
 finds-invs line (n ∷ ns) test e = rw e (finds-invs line ns test e)
 
-pub all3 : (a b c : Bool) → (a && b && c) ≡ true → (a ≡ true) × (b ≡ true) × (c ≡ true)
-all3 a b c e = (grind arith, grind arith, grind arith)
-
 -- by its own share a node asks for a victim where it does by the home's
 module _ (charge : Charge) (trace : Trace) (past : Past) (sound : IsSound trace past) (src dst : ℕ) (class : Class) (m : Msg) (rest : List Msg) (front : past.state.lane src dst class ≡ m ∷ rest) where
   abbrev taker : Share
@@ -107,7 +105,7 @@ module _ (charge : Charge) (trace : Trace) (past : Past) (sound : IsSound trace 
 
       go : (content : Content) → meets dst (home_of trace.sizes line) src (is_set_empty trace.sizes taker line) content (line_share trace.sizes taker line) ≡ true →
           (meets dst (home_of trace.sizes line) src (is_set_empty trace.sizes taker line) content (line_share trace.sizes taker line) && is_get content && wants_victim (room_of charge trace.sizes taker) src (line_share trace.sizes taker line).header) ≡ asks_victim charge trace.sizes past.state src dst line content
-      go Get met = rw met (at (dst == home_of trace.sizes line) refl (all3 (dst == home_of trace.sizes line) (not (src == home_of trace.sizes line)) (asks_well src (line_share trace.sizes taker line).header) met).0)
+      go Get met = rw met (at (dst == home_of trace.sizes line) refl (three_parts (dst == home_of trace.sizes line) (not (src == home_of trace.sizes line)) (asks_well src (line_share trace.sizes taker line).header) met).0)
       go GetX met = none _ _
       go (FwdGet r) met = none _ _
       go (FwdGetX r) met = none _ _
@@ -135,10 +133,10 @@ module _ (charge : Charge) (sizes : Sizes) (state : State) (dst g : ℕ) where
   home-is e = grind (arith, nat_tests)
 
   pub fit-back : is_fit charge sizes state dst g ≡ true → fits_victim charge sizes dst (state.share dst) g ≡ true
-  fit-back fit = subst (λ s. fits_by s.header ≡ true) (sym (at-home sizes state dst g (home-is (all3 (home_of sizes g == dst) _ _ fit).0))) fit
+  fit-back fit = subst (λ s. fits_by s.header ≡ true) (sym (at-home sizes state dst g (home-is (three_parts (home_of sizes g == dst) _ _ fit).0))) fit
 
   pub fit-same : fits_victim charge sizes dst (state.share dst) g ≡ true → is_fit charge sizes state dst g ≡ true
-  fit-same fit = subst (λ s. fits_by s.header ≡ true) (at-home sizes state dst g (home-is (all3 (home_of sizes g == dst) _ _ fit).0)) fit
+  fit-same fit = subst (λ s. fits_by s.header ≡ true) (at-home sizes state dst g (home-is (three_parts (home_of sizes g == dst) _ _ fit).0)) fit
 
 module _ (charge : Charge) (trace : Trace) (positive : 0 < trace.sizes.words) (past : Past) (sound : IsSound trace past) (P : Act → Type 0) where
   abbrev sizes : Sizes
@@ -221,7 +219,7 @@ module _ (charge : Charge) (trace : Trace) (positive : 0 < trace.sizes.words) (p
       )
         where
           same : dst ≡ home_of sizes g
-          same = home-is (all3 (home_of sizes g == dst) _ _ fit).0
+          same = home-is (three_parts (home_of sizes g == dst) _ _ fit).0
             where
               home-is : (home_of sizes g == dst) ≡ true → dst ≡ home_of sizes g
               home-is e = grind (arith, nat_tests)

@@ -1,6 +1,6 @@
 -- Each event keeps what is bounded, case by case: its row was allowed, and sends no write-back or hint but through the gate. Where
 -- a line is called in, the row before it refuses, so that the home still has room for one more pending line.
-use Rattle.std.proofs.Common.{◌≡◌, ◌≢◌, ℕ, ◌+◌, ◌<◌, ◌≤◌, Bool, true, false, cond, ◌==◌, ◌&&◌, not, inl, List, [], ◌∷◌, refl, arith, ap, sym, ◌∙◌, subst, Ok}
+use Rattle.std.proofs.Common.{◌≡◌, ◌≢◌, ℕ, ◌+◌, ◌<◌, ◌≤◌, Bool, true, false, cond, ◌==◌, not, inl, List, [], ◌∷◌, refl, arith, ap, sym, ◌∙◌, subst, Ok}
 use Rattle.std.proofs.lemmas.Bool.Decides.{nat_tests}
 use Rattle.line_map.specs.Sizes.{Sizes, home_of}
 use Rattle.op_model.specs.Events.Node.{is_get}
@@ -17,14 +17,14 @@ use Rattle.op_model.specs.declared.events.Class.{Class}
 use Rattle.op_model.specs.declared.events.Event.{Event}
 use Rattle.op_model.specs.declared.events.EvictKind.{EvictKind}
 use Rattle.op_model.specs.declared.messages.Msg.{Msg}
-use Rattle.line_invariant.proofs.Basics.{eq-self}
+use Rattle.op_model.proofs.Plain.{eqb-self, three_parts, last_of_four}
 use Rattle.one_history.specs.Project.{line_words, of_line, project}
 use Rattle.one_history.specs.Sound.{IsSound, answered_of}
 use Rattle.one_history.proofs.Events.{refuses}
 use Rattle.one_history.proofs.Shares.{of_line-front}
 use Rattle.lane_bounds.proofs.Acts.{Act, after_act, after_row_of, just, taken_of}
 use Rattle.lane_bounds.proofs.Allowed.{IsAllowed, begin-allowed, evict-allowed, hit-allowed, message-allowed, reclaim-allowed}
-use Rattle.lane_bounds.proofs.Effects.{IsEach, all3, asks_victim, each-event, is_fit, is_gated, row_at}
+use Rattle.lane_bounds.proofs.Effects.{IsEach, asks_victim, each-event, is_fit, is_gated, row_at}
 use Rattle.lane_bounds.proofs.Evictions.{evict-fits}
 use Rattle.lane_bounds.proofs.Forwards.{for-another}
 use Rattle.lane_bounds.proofs.Homes.{pending-stays}
@@ -33,7 +33,7 @@ use Rattle.lane_bounds.proofs.Lanes.{taken-either}
 use Rattle.lane_bounds.proofs.Sends.{IsForAnother, addressed-none, else-begin, else-evict, else-hit, else-message, quiet-begin, quiet-each, quiet-hit, quiet-message, quiet-reclaim}
 
 -- a line is called in where its home may have one more pending line
-call-allowed : (room : Room) (row : LineShare) → room.full ≡ false → IsAllowed room row.header (call_in row).share.header
+pub call-allowed : (room : Room) (row : LineShare) → room.full ≡ false → IsAllowed room row.header (call_in row).share.header
 call-allowed room row free = record { pending = λ a b. free; links = λ _. inl (omega arith) }
 
 -- without its first message a lane has no more of a line, and no more write-backs and hints
@@ -51,12 +51,9 @@ fewer-left m ms limit le = go (is_departure (msg_content m)) le
     go true le = omega arith
     go false le = le
 
-not-full : (room : Room) (src : ℕ) (header : Header) → wants_victim room src header ≡ true → room.full ≡ false
+pub not-full : (room : Room) (src : ℕ) (header : Header) → wants_victim room src header ≡ true → room.full ≡ false
 unfolding wants_victim
-not-full room src header e = go (is_pending header) (lacks_link room src header) room.link_pending room.full e
-  where
-    go : (a b c d : Bool) → (not a && b && not c && not d) ≡ true → d ≡ false
-    go a b c d e = grind arith
+not-full room src header e = last_of_four (is_pending header) (lacks_link room src header) room.link_pending room.full e
 
 module _ (charge : Charge) (trace : Trace) (positive : 0 < trace.sizes.words) (past : Past) (sound : IsSound trace past) (bounded : IsBounded charge trace.sizes past.state) where
   abbrev sizes : Sizes
@@ -136,12 +133,12 @@ module _ (charge : Charge) (trace : Trace) (positive : 0 < trace.sizes.words) (p
     still-room : asks_victim charge sizes state src dst line content ≡ true →
         (room_of charge sizes (put_at state.share dst (put_share sizes (dst == home_of sizes line) line outcome.done outcome.share (state.share dst)) dst)).full ≡ false
     still-room asks =
-        let want = all3 (is_get content) (dst == home_of sizes line) (wants_victim (room dst) src (row dst line).header) asks in
+        let want = three_parts (is_get content) (dst == home_of sizes line) (wants_victim (room dst) src (row dst line).header) asks in
         let same : dst ≡ home_of sizes line = let e = want.1 in grind (arith, nat_tests) in
         let stays : outcome.share ≡ row dst line = refuses dst (home_of sizes line) src alone (room dst) content (row dst line) want.0 want.2 in
         let count = pending-stays charge sizes (state.share dst) (dst == home_of sizes line) line outcome.done outcome.share
         (λ _. ap (λ s. s.header) stays ∙ ap (λ n. header_of sizes (state.share n) line) (sym same)) in
-        rw (eq-self dst, count) (not-full (room dst) src (row dst line).header want.2)
+        rw (eqb-self dst, count) (not-full (room dst) src (row dst line).header want.2)
 
     called : (g : ℕ) → asks_victim charge sizes state src dst line content ≡ true → is_fit charge sizes state dst g ≡ true →
         (next : State) → next ≡ after_row_of sizes dst line outcome (record state { lane = taken_of src dst class rest state.lane }) →
@@ -149,7 +146,7 @@ module _ (charge : Charge) (trace : Trace) (positive : 0 < trace.sizes.words) (p
     called g asks fit next is =
         let before : IsBounded charge sizes next = subst (IsBounded charge sizes) (sym is) took in
         let free : (room_of charge sizes (next.share dst)).full ≡ false = ap (λ s. (room_of charge sizes (s.share dst)).full) is ∙ still-room asks in
-        let fits = all3 (home_of sizes g == dst) (holds_link (room dst) (row dst g).header) (not (is_pending (row dst g).header)) fit in
+        let fits = three_parts (home_of sizes g == dst) (holds_link (room dst) (row dst g).header) (not (is_pending (row dst g).header)) fit in
         let here : dst ≡ home_of sizes g = let e = fits.0 in grind (arith, nat_tests) in
         bounded-row charge sizes next before dst g (call_in (share_at sizes next dst g)) next.lane
         (λ same. subst (λ n. IsAllowed (room_of charge sizes (next.share dst)) (header_of sizes (next.share n) g) (call_in (share_at sizes next dst g)).share.header) (sym same) (call-allowed (room_of charge sizes (next.share dst)) (share_at sizes next dst g) free))

@@ -9,9 +9,9 @@ use Rattle.op_model.specs.Messages.{Content, message, msg_content, msg_content-m
 use Rattle.op_model.specs.Shares.{Lanes}
 use Rattle.op_model.specs.declared.events.Class.{Class}
 use Rattle.op_model.specs.declared.messages.Msg.{Msg}
+use Rattle.op_model.proofs.Shares.{same_class-is}
 use Rattle.line_invariant.specs.Line.{addressed}
 use Rattle.one_history.specs.Project.{of_line}
-use Rattle.one_history.proofs.Project.{one_class}
 use Rattle.one_history.proofs.Shares.{of_line-append, of_line-behind, of_line-front}
 use Rattle.lane_bounds.proofs.Acts.{sent_of, tag, taken_of}
 use Rattle.lane_bounds.proofs.Sums.{contents-cons, weighed, weighed-cons}
@@ -33,7 +33,7 @@ module _ (src dst : ℕ) (class : Class) (rest : List Msg) (lane : Lanes) (P : L
   taken-either a b k was is = go (a == src) (b == dst) (same_class k class) refl refl refl
     where
       go : (c d e : Bool) → (a == src) ≡ c → (b == dst) ≡ d → same_class k class ≡ e → P (cond (c && d && e) rest (lane a b k))
-      go true true true x y z = is (grind (arith, nat_tests)) (grind (arith, nat_tests)) (one_class k class z)
+      go true true true x y z = is (grind (arith, nat_tests)) (grind (arith, nat_tests)) (same_class-is k class z)
       go true true false x y z = was
       go true false e x y z = was
       go false d e x y z = was

@@ -12,10 +12,10 @@ use Rattle.op_model.specs.declared.events.Class.TheVariants.{Reply, Request}
 use Rattle.op_model.specs.declared.events.Class.{Class}
 use Rattle.op_model.specs.declared.events.Event.{Event}
 use Rattle.op_model.specs.declared.messages.Msg.{Msg}
+use Rattle.op_model.proofs.Plain.{eqb-self}
 use Rattle.line_invariant.specs.Good.{Answered, Asked, Called, Carrier, Clean, HandedOn, HomeOwns, IsAskedBy, IsGood, IsGoodHeader, IsHomeCarrier, IsRefusal, Owned, Phase, Resting, SharedOut, answer_part, asking_part, leaving_part, reply_part}
 use Rattle.line_invariant.specs.Line.{Line}
 use Rattle.line_invariant.specs.Types.{Me, Nobody, Node}
-use Rattle.line_invariant.proofs.Basics.{eq-self}
 use Rattle.line_invariant.proofs.Fronts.{silent-home}
 use Rattle.one_history.specs.Project.{line_words, of_line, project}
 use Rattle.one_history.specs.Sound.{IsSound, answered_of}
@@ -53,13 +53,13 @@ own-answer home words (HandedOn r o h) header copy carries good is = handed (r =
 
 own-lane : (home : ℕ) (line : Line) → IsGood home line → (class : Class) → line.lane home home class ≡ []
 own-lane home line good Request =
-    let e = simp (eq-self home) at (good.lanes home home Request) in
+    let e = simp (eqb-self home) at (good.lanes home home Request) in
     let at_home = good.at_home in
     let s : asking_part (good.status home).carrier ≡ [] = silent-home home line.words good.phase _ at_home.carrier in
     let t : leaving_part (good.status home).leaving ≡ [] = rw at_home.stays in
     e ∙ ap (λ xs. xs ++ asking_part (good.status home).carrier) t ∙ s
 own-lane home line good Reply =
-    let e = simp (eq-self home) at (good.lanes home home Reply) in
+    let e = simp (eqb-self home) at (good.lanes home home Reply) in
     let at_home = good.at_home in
     let s : answer_part home (good.status home).carrier ≡ [] = own-answer home line.words good.phase line.header (line.copy home) _ good.header at_home.carrier in
     let t : reply_part (good.status home).duty ≡ [] = rw at_home.off_duty in

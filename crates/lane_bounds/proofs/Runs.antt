@@ -1,7 +1,8 @@
 -- What each event keeps holds after every run; and so do the bounds: at the start no line is pending, no link is held and all lanes
 -- are empty, and each node has the headers of its own lines.
-use Rattle.std.proofs.Common.{◌≡◌, ℕ, zero, suc, ◌+◌, ◌*◌, ◌-◌, ◌/◌, ◌≤◌, ◌<◌, ◌≢◌, ◌⊎◌, inl, inr, Bool, true, false, nat_le, nat_lt, List, [], ◌∷◌, length, refl, arith, ap, sym, ◌∙◌, subst, Option, Some, None, Result, Ok, Err}
+use Rattle.std.proofs.Common.{◌≡◌, ℕ, zero, suc, ◌+◌, ◌*◌, ◌-◌, ◌/◌, ◌≤◌, ◌<◌, ◌≢◌, ◌⊎◌, inl, inr, Bool, true, false, nat_le, nat_lt, List, [], ◌∷◌, refl, arith, ap, sym, ◌∙◌, subst, Option, Some, None, Result, Ok, Err}
 use Rattle.std.proofs.lemmas.Bool.Decides.{nat_tests}
+use Rattle.std.proofs.lemmas.List.{nil_from_length}
 use Rattle.std.proofs.lemmas.Nat.{div-mul-add}
 use Rattle.std.specs.List.{range_with_len}
 use Rattle.std.specs.Ordering.{nat_cmp}
@@ -40,12 +41,8 @@ module _ (charge : Charge) (trace : Trace) (positive : 0 < trace.sizes.words) (P
   pub keeps-run : P (start trace.sizes) → (events : List Event) (past : Past) → run charge trace events ≡ Some past → IsSound trace past × P past
   keeps-run first events past e = keeps-from (start trace.sizes) past events (sound-start trace) first e
 
-no-entry : {A : Type 0} (xs : List A) → length xs ≡ 0 → xs ≡ []
-no-entry [] e = refl
-no-entry (x ∷ xs) e = absurd (omega arith)
-
 no-header : fin.entries {X = Header} {R = nat_cmp} fin.empty ≡ []
-no-header = no-entry _ (sym (fin.len-entries fin.empty) ∙ fin.len-empty nat_cmp Header)
+no-header = nil_from_length _ (sym (fin.len-entries fin.empty) ∙ fin.len-empty nat_cmp Header)
 
 -- the first headers hold nothing
 first-over : (sizes : Sizes) (f : Header → ℕ) → f (first_header sizes) ≡ 0 → (lines : List ℕ) → over f (fin.entries (first_headers sizes lines)) ≡ 0

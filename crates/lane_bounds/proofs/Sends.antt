@@ -1,6 +1,7 @@
 -- What a row sends: write-backs and hints by evictions alone, and no node but a home sends to itself.
 -- Each row names whom it answers: the home, or a requester who is another node.
 use Rattle.std.proofs.Common.{◌≡◌, ◌≢◌, ℕ, Bool, true, false, cond, nat_le, ◌==◌, ◌&&◌, not, List, [], ◌∷◌, refl, arith, subst, sym, ◌∙◌, Option, Some, None, Result, Ok, Err}
+use Rattle.std.proofs.lemmas.Bool.{ne_eqb}
 use Rattle.std.proofs.lemmas.Bool.Decides.{nat_tests}
 use Rattle.std.specs.List.{list_any}
 use Rattle.op_model.specs.Events.Step.{is_departure}
@@ -19,7 +20,7 @@ use Rattle.op_model.specs.declared.operations.Op.{Op}
 use Rattle.op_model.specs.declared.state.Want.{Want}
 use Rattle.line_invariant.specs.Line.{addressed}
 use Rattle.line_invariant.specs.Types.{Gone, Grantee, Me, Nobody, Node}
-use Rattle.line_invariant.proofs.Basics.{eq-apart, if-either}
+use Rattle.line_invariant.proofs.Basics.{if-either}
 
 -- no write-back and no hint is sent
 abbrev pub Quiet : Outcome → Type 0
@@ -152,7 +153,7 @@ addressed-none me class (s ∷ sends) h = let ih = addressed-none me class sends
 
 module _ (me home : ℕ) (apart : me ≢ home) (room : Room) (row : LineShare) where
   off : (me == home) ≡ false
-  off = eq-apart me home apart
+  off = ne_eqb me home apart
 
   away : (home == me) ≡ false
   away = grind (arith, nat_tests)
@@ -164,7 +165,7 @@ module _ (me home : ℕ) (apart : me ≢ home) (room : Room) (row : LineShare) w
   to-home content = rw away
 
   to-both : (r : ℕ) (first second : Content) → r ≢ me → list_any {X = ℕ × Content} (λ s. s.0 == me) ((r, first) ∷ (home, second) ∷ []) ≡ false
-  to-both r first second other = rw (eq-apart r me other, away)
+  to-both r first second other = rw (ne_eqb r me other, away)
 
   pub else-hit : (op : Op) → Elsewhere me (hit op row)
   unfolding hit

@@ -4,10 +4,9 @@ use Rattle.std.proofs.Common.{◌≡◌, ◌≢◌, ℕ, ◌≤◌, Bool, true, 
 use Rattle.std.proofs.lemmas.Bool.Decides.{nat_tests}
 use Rattle.std.specs.List.{sum_by}
 use Rattle.op_model.specs.Events.Step.{is_departure}
-use Rattle.op_model.specs.Lines.{Copy, Header, is_pending}
+use Rattle.op_model.specs.Lines.{Copy, Header, is_pending, is_outstanding}
 use Rattle.op_model.specs.Messages.{Content, FAck, FwdGet, FwdGetX, Get, GetX, Inv, InvAck, Nak, Nakc, Put, PutX, ShWb}
 use Rattle.op_model.specs.Operations.{Words}
-use Rattle.op_model.specs.Tables.Remote.{waits_any}
 use Rattle.op_model.specs.declared.events.Class.TheVariants.{Reply, Request}
 use Rattle.op_model.specs.declared.state.Want.{Want}
 use Rattle.line_invariant.specs.Good.{Asked, Called, Carrier, Clean, Duty, HandedOn, HomeOwns, IsCarried, IsGood, IsGoodHeader, IsOnDuty, Leaving, NoDuty, Owned, Phase, SharedOut, answer_part, asking_part, leaving_part, reply_part, role_in, told_part}
@@ -42,7 +41,7 @@ is_back _ = false
 abbrev pub many : (Content → Bool) → List Content → ℕ
 many test contents = sum_by (λ m. one_if (test m)) contents
 
-asks-few : (leaving : Leaving) (want : Option Want) (copy : Copy) (carries : Carrier) → IsCarried want copy carries → many is_ask (leaving_part leaving ++ asking_part carries) ≤ one_if (waits_any want)
+asks-few : (leaving : Leaving) (want : Option Want) (copy : Copy) (carries : Carrier) → IsCarried want copy carries → many is_ask (leaving_part leaving ++ asking_part carries) ≤ one_if (is_outstanding want)
 asks-few leaving want copy carries is = grind arith
 
 no-told : (leaving : Leaving) (carries : Carrier) → (many is_told (leaving_part leaving ++ asking_part carries) ≡ 0) × (many is_answer (leaving_part leaving ++ asking_part carries) ≡ 0) × (many is_back (leaving_part leaving ++ asking_part carries) ≡ 0)
@@ -62,7 +61,7 @@ duty-pending home words (SharedOut r o) p lists duty header copy is on idle = ab
 duty-pending home words (HandedOn r o h) p lists duty header copy is on idle = absurd (grind arith)
 
 replies-few : (src : ℕ) (want : Option Want) (copy : Copy) (carries : Carrier) (duty : Duty) (pending : Bool) → IsCarried want copy carries → (pending ≡ false → duty ≡ NoDuty) →
-    (many is_answer (answer_part src carries ++ reply_part duty) ≤ one_if (waits_any want)) × (many is_back (answer_part src carries ++ reply_part duty) ≤ one_if pending)
+    (many is_answer (answer_part src carries ++ reply_part duty) ≤ one_if (is_outstanding want)) × (many is_back (answer_part src carries ++ reply_part duty) ≤ one_if pending)
     × (many is_ask (answer_part src carries ++ reply_part duty) ≡ 0) × (many is_told (answer_part src carries ++ reply_part duty) ≡ 0) × (many is_departure (answer_part src carries ++ reply_part duty) ≡ 0)
 replies-few src want copy carries duty pending is h = (grind (arith, nat_tests), grind (arith, nat_tests), grind (arith, nat_tests), grind (arith, nat_tests), grind (arith, nat_tests))
 
@@ -83,12 +82,12 @@ module _ (home : ℕ) (line : Line) (good : IsGood home line) where
       go false e = let far : n ≢ home = grind (arith, nat_tests) in duty-pending home line.words good.phase n _ _ line.header (line.copy home) good.header (good.nodes n far).duty idle
 
   pub request-kinds : (a b : ℕ) →
-      (many is_ask (line.lane a b Request) ≤ one_if (waits_any (line.want a))) × (many is_told (line.lane a b Request) ≤ cond (a == home) (one_if (is_pending line.header)) 0)
+      (many is_ask (line.lane a b Request) ≤ one_if (is_outstanding (line.want a))) × (many is_told (line.lane a b Request) ≤ cond (a == home) (one_if (is_pending line.header)) 0)
       × (many is_answer (line.lane a b Request) ≡ 0) × (many is_back (line.lane a b Request) ≡ 0)
   request-kinds a b = rw (good.lanes a b Request) (go (b == home) (a == home))
     where
       Few : List Content → Bool → Type 0
-      Few contents c = (many is_ask contents ≤ one_if (waits_any (line.want a))) × (many is_told contents ≤ cond c (one_if (is_pending line.header)) 0) × (many is_answer contents ≡ 0) × (many is_back contents ≡ 0)
+      Few contents c = (many is_ask contents ≤ one_if (is_outstanding (line.want a))) × (many is_told contents ≤ cond c (one_if (is_pending line.header)) 0) × (many is_answer contents ≡ 0) × (many is_back contents ≡ 0)
 
       go : (c d : Bool) → Few (cond c (leaving_part (good.status a).leaving ++ asking_part (good.status a).carrier) (cond d (told_part (good.status b).duty) [])) d
       go true d = let few = asks-few (good.status a).leaving (line.want a) (line.copy a) (good.status a).carrier (carried-of a) in let none = no-told (good.status a).leaving (good.status a).carrier in (few, omega (arith, none.0), none.1, none.2)
@@ -96,12 +95,12 @@ module _ (home : ℕ) (line : Line) (good : IsGood home line) where
       go false false = (omega arith, omega arith, refl, refl)
 
   pub reply-kinds : (a b : ℕ) →
-      (many is_answer (line.lane a b Reply) ≤ one_if (waits_any (line.want b))) × (many is_back (line.lane a b Reply) ≤ cond (b == home) (one_if (is_pending line.header)) 0)
+      (many is_answer (line.lane a b Reply) ≤ one_if (is_outstanding (line.want b))) × (many is_back (line.lane a b Reply) ≤ cond (b == home) (one_if (is_pending line.header)) 0)
       × (many is_ask (line.lane a b Reply) ≡ 0) × (many is_told (line.lane a b Reply) ≡ 0) × (many is_departure (line.lane a b Reply) ≡ 0)
   reply-kinds a b = rw (good.lanes a b Reply) (go (b == home))
     where
       Few : List Content → Bool → Type 0
-      Few contents c = (many is_answer contents ≤ one_if (waits_any (line.want b))) × (many is_back contents ≤ cond c (one_if (is_pending line.header)) 0) × (many is_ask contents ≡ 0) × (many is_told contents ≡ 0) × (many is_departure contents ≡ 0)
+      Few contents c = (many is_answer contents ≤ one_if (is_outstanding (line.want b))) × (many is_back contents ≤ cond c (one_if (is_pending line.header)) 0) × (many is_ask contents ≡ 0) × (many is_told contents ≡ 0) × (many is_departure contents ≡ 0)
 
       go : (c : Bool) → Few (answer_part a (good.status b).carrier ++ cond c (reply_part (good.status a).duty) []) c
       go true = replies-few a (line.want b) (line.copy b) (good.status b).carrier (good.status a).duty (is_pending line.header) (carried-of b) (duty-of a)

@@ -1,7 +1,8 @@
 -- The first lane behind one: among the higher takers of its sender, and then of the next sender with a mark.
 use Rattle.std.proofs.Common.{◌≡◌, ◌≢◌, ℕ, ◌+◌, ◌*◌, ◌-◌, ◌%◌, ◌^◌, ◌<◌, ◌≤◌, ◌⊎◌, inl, inr, Bool, true, false, cond, ◌&&◌, ◌||◌, ◌==◌, nat_lt, refl, ap, sym, ◌∙◌, arith, List, get_or, bit_and, bit_or, w64, Option, Some, None}
 use Rattle.std.specs.Int.{bit_at, trailing_zeros}
-use Rattle.std.proofs.lemmas.Bool.{cases_lt}
+use Rattle.std.proofs.Math.Bool.{and-false, or-false}
+use Rattle.std.proofs.lemmas.Bool.{cases_lt, lt-ltb, le-ltb, eq-eqb, ne_eqb, cases_eq}
 use Rattle.std.proofs.lemmas.Bool.Decides.{nat_tests}
 use Rattle.std.proofs.lemmas.Nat.{and_le_l, or_lt}
 use Rattle.std.proofs.lemmas.Nat.Bits.{bit_at-zero, bit_at-lt, bit_at_and, bit_at_or, bit_at_set_same, bit_at_set_other, bit_at_clear_same, bit_at_clear_other, bit_at-trailing_zeros, bit_at_mask_inside, bit_at_mask_below, ones_shl, same_from_bits_below}
@@ -11,20 +12,7 @@ use Rattle.op_model.specs.Run.Schedules.{lane_before, class_before}
 use Rattle.lane_queues.specs.FirstBusy.{Marks, IsNowhereFrom, AnswersFirstFrom, behind, lane_named}
 use Rattle.lane_queues.specs.BusyLanes.{AnswersLowest, AnswersNextSender, AreSenders, IsLowest, mask_place, marks_of}
 use Rattle.lane_queues.specs.LaneStates.{by_class}
-use Rattle.lane_queues.proofs.Masks.{eq_or_not}
 use Rattle.lane_queues.proofs.MaskSteps.{quiet_sender, without_bit}
-
-less-test : (a b : ℕ) → a < b → nat_lt a b ≡ true
-less-test a b less = grind (arith, nat_tests)
-
-over-test : (a b : ℕ) → b ≤ a → nat_lt a b ≡ false
-over-test a b over = grind (arith, nat_tests)
-
-same-test : (a b : ℕ) → a ≡ b → (a == b) ≡ true
-same-test a b same = grind (arith, nat_tests)
-
-other-test : (a b : ℕ) → a ≢ b → (a == b) ≡ false
-other-test a b other = grind (arith, nat_tests)
 
 -- ---- bits
 
@@ -37,12 +25,12 @@ above-bits k i within to = go (cases_lt k i) (cases_lt i k)
 
     go : (k < i) ⊎ (i ≤ k) → (i < k) ⊎ (k ≤ i) → bit_at (without_bit ((2 ^ 64 - 1) * 2 ^ k % 2 ^ 64) k) i ≡ cond (nat_lt k i) 1 0
     go (inl above) y =
-        rw (less-test k i above) (bit_at_clear_other w64 ((2 ^ 64 - 1) * 2 ^ k % 2 ^ 64) k within i to (λ e. omega (arith, e, above)) ∙ (ap (λ n. bit_at n i) ones ∙ bit_at_mask_inside k 64 i (omega arith) to))
+        rw (lt-ltb k i above) (bit_at_clear_other w64 ((2 ^ 64 - 1) * 2 ^ k % 2 ^ 64) k within i to (λ e. omega (arith, e, above)) ∙ (ap (λ n. bit_at n i) ones ∙ bit_at_mask_inside k 64 i (omega arith) to))
     go (inr under) (inl below) =
-        rw (over-test k i under) (bit_at_clear_other w64 ((2 ^ 64 - 1) * 2 ^ k % 2 ^ 64) k within i to (λ e. omega (arith, e, below)) ∙ (ap (λ n. bit_at n i) ones ∙ bit_at_mask_below k 64 i below))
+        rw (le-ltb k i under) (bit_at_clear_other w64 ((2 ^ 64 - 1) * 2 ^ k % 2 ^ 64) k within i to (λ e. omega (arith, e, below)) ∙ (ap (λ n. bit_at n i) ones ∙ bit_at_mask_below k 64 i below))
     go (inr under) (inr over) =
         let same : k ≡ i = omega arith in
-        rw (over-test k i under) (ap (bit_at (without_bit ((2 ^ 64 - 1) * 2 ^ k % 2 ^ 64) k)) (sym same) ∙ bit_at_clear_same w64 ((2 ^ 64 - 1) * 2 ^ k % 2 ^ 64) k within)
+        rw (le-ltb k i under) (ap (bit_at (without_bit ((2 ^ 64 - 1) * 2 ^ k % 2 ^ 64) k)) (sym same) ∙ bit_at_clear_same w64 ((2 ^ 64 - 1) * 2 ^ k % 2 ^ 64) k within)
 
 bit-test : (bit : ℕ) → bit ≡ 0 → (bit == 1) ≡ false
 bit-test bit none = rw none refl
@@ -95,8 +83,8 @@ from_lowest marks src requests replies as_request as_reply (Some taker) is = rec
 }
   where
     here : (class : Class) → bit_at (by_class requests replies class) taker.0 ≡ 1 → marks src taker.0 class ≡ true
-    here Request one = as_request taker.0 is.to ∙ same-test (bit_at requests taker.0) 1 one
-    here Reply one = as_reply taker.0 is.to ∙ same-test (bit_at replies taker.0) 1 one
+    here Request one = as_request taker.0 is.to ∙ eq-eqb (bit_at requests taker.0) 1 one
+    here Reply one = as_reply taker.0 is.to ∙ eq-eqb (bit_at replies taker.0) 1 one
 
     before : (other : ℕ) (k : Class) → other < taker.0 → marks src other k ≡ false
     before other Request less = as_request other (omega (arith, less, is.to)) ∙ bit-test (bit_at requests other) (is.before other less).0
@@ -108,16 +96,8 @@ not_before_request : (class : Class) → class_before class Request ≡ false
 not_before_request Request = refl
 not_before_request Reply = refl
 
-and-false : (b : Bool) → (b && false) ≡ false
-and-false true = refl
-and-false false = refl
-
-or-false : (b : Bool) → (b || false) ≡ b
-or-false true = refl
-or-false false = refl
-
 same-sender : (src dst b : ℕ) (class k : Class) → lane_before (lane_named (src, dst, class)) (lane_named (src, b, k)) ≡ (nat_lt dst b || ((dst == b) && class_before class k))
-same-sender src dst b class k = rw (over-test src src (omega arith), same-test src src refl) refl
+same-sender src dst b class k = rw (le-ltb src src (omega arith), eq-eqb src src refl) refl
 
 masked : (mask chosen b : ℕ) (test : Bool) → bit_at chosen b ≡ cond test 1 0 → (test && (bit_at mask b == 1)) ≡ (bit_at (bit_and mask chosen) b == 1)
 masked mask chosen b true is = ap (λ n. n == 1) (sym (bit_at_and mask chosen b ∙ (let few = bit_at-lt mask b in omega (arith, is, few))))
@@ -138,11 +118,11 @@ module _ (masks : List ℕ) (src dst : ℕ) (class : Class) (above : ℕ) (place
 
 -- the replies behind a request are those from its taker on
 pub replies_from : (above dst : ℕ) → dst < 64 → ((i : ℕ) → i < 64 → bit_at above i ≡ cond (nat_lt dst i) 1 0) → (i : ℕ) → i < 64 → bit_at (bit_or above (1 * 2 ^ dst % 2 ^ 64)) i ≡ cond (nat_lt dst i || ((dst == i) && true)) 1 0
-replies_from above dst within places i to = go (eq_or_not dst i)
+replies_from above dst within places i to = go (cases_eq dst i)
   where
     go : (dst ≡ i) ⊎ (dst ≢ i) → bit_at (bit_or above (1 * 2 ^ dst % 2 ^ 64)) i ≡ cond (nat_lt dst i || ((dst == i) && true)) 1 0
-    go (inl same) = rw (over-test dst i (omega arith), same-test dst i same) (ap (bit_at (bit_or above (1 * 2 ^ dst % 2 ^ 64))) (sym same) ∙ bit_at_set_same w64 above dst within)
-    go (inr other) = rw (other-test dst i other) (bit_at_set_other w64 above dst within i (λ e. other (sym e)) ∙ (places i to ∙ ap (λ t. cond t 1 0) (sym (or-false (nat_lt dst i)))))
+    go (inl same) = rw (le-ltb dst i (omega arith), eq-eqb dst i same) (ap (bit_at (bit_or above (1 * 2 ^ dst % 2 ^ 64))) (sym same) ∙ bit_at_set_same w64 above dst within)
+    go (inr other) = rw (ne_eqb dst i other) (bit_at_set_other w64 above dst within i (λ e. other (sym e)) ∙ (places i to ∙ ap (λ t. cond t 1 0) (sym (or-false (nat_lt dst i)))))
 
 -- behind a reply only those above it
 pub replies_above : (above dst : ℕ) → ((i : ℕ) → i < 64 → bit_at above i ≡ cond (nat_lt dst i) 1 0) → (i : ℕ) → i < 64 → bit_at above i ≡ cond (nat_lt dst i || ((dst == i) && false)) 1 0
@@ -155,7 +135,7 @@ high-bit senders above i one = bit_at_and senders above i ∙ (let few = bit_at-
 
 pub sender_none : (senders : ℕ) (masks : List ℕ) (src above : ℕ) → AreSenders senders masks → ((i : ℕ) → i < 64 → bit_at above i ≡ cond (nat_lt src i) 1 0) → bit_and senders above ≡ 0 → AnswersNextSender (marks_of masks) src None
 sender_none senders masks src above are places none = λ other behind below.
-    let one : bit_at above other ≡ 1 = places other below ∙ ap (λ t. cond t 1 0) (less-test src other behind) in
+    let one : bit_at above other ≡ 1 = places other below ∙ ap (λ t. cond t 1 0) (lt-ltb src other behind) in
     let quiet : bit_at senders other ≡ 0 = sym (high-bit senders above other one) ∙ (ap (λ n. bit_at n other) none ∙ bit_at-zero other) in
     λ dst class to. quiet_sender senders masks other are below quiet dst class
 
@@ -181,7 +161,7 @@ sender_some senders masks src above are places some = record {
   below = found.0;
   before = λ other behind less dst class to.
       (let below : other < 64 = omega (arith, less, found.0) in
-      let one : bit_at above other ≡ 1 = places other below ∙ ap (λ t. cond t 1 0) (less-test src other behind) in
+      let one : bit_at above other ≡ 1 = places other below ∙ ap (λ t. cond t 1 0) (lt-ltb src other behind) in
       quiet_sender senders masks other are below (sym (high-bit senders above other one) ∙ found.2 other less) dst class);
   some = some_mark senders masks next are found.0 (let both = bit_at_and senders above next in let few = bit_at-lt senders next in let small = bit_at-lt above next in omega (arith, found.1, both, few, small));
 }
@@ -200,7 +180,7 @@ sender_some senders masks src above are places some = record {
       where
         go : (src < next) ⊎ (next ≤ src) → src < next
         go (inl less) = less
-        go (inr over) = absurd (let none : bit_at above next ≡ 0 = places next found.0 ∙ ap (λ t. cond t 1 0) (over-test src next over) in omega (arith, none, chosen))
+        go (inr over) = absurd (let none : bit_at above next ≡ 0 = places next found.0 ∙ ap (λ t. cond t 1 0) (le-ltb src next over) in omega (arith, none, chosen))
 
 pub lowest_within : (requests replies : ℕ) → requests < 2 ^ 64 → replies < 2 ^ 64 → bit_or requests replies ≢ 0 → trailing_zeros w64 (bit_or requests replies) < 64
 lowest_within requests replies small few some = (bit_at-trailing_zeros w64 (bit_or requests replies) (omega (arith, some)) (or_lt 64 requests replies small few)).0

@@ -1,6 +1,6 @@
 -- The first marked lane is the first busy one: a lane from or to a node that isn't there holds nothing, and so isn't marked. Also lanes as they are made.
-use Rattle.std.proofs.Common.{◌≡◌, ℕ, ◌*◌, ◌^◌, ◌<◌, ◌≤◌, ◌⊎◌, inl, inr, Bool, true, false, ◌&&◌, not, ap, sym, ◌∙◌, arith, List, [], get_or, Option, Some, None, IfSome, replicate}
-use Rattle.std.proofs.lemmas.Bool.{cases_lt}
+use Rattle.std.proofs.Common.{◌≡◌, ℕ, ◌*◌, ◌^◌, ◌<◌, ◌≤◌, ◌⊎◌, inl, inr, true, false, ◌&&◌, not, ap, sym, ◌∙◌, arith, List, [], get_or, Option, Some, None, IfSome, replicate}
+use Rattle.std.proofs.lemmas.Bool.{cases_lt, and_parts}
 use Rattle.std.proofs.lemmas.List.{get_or-replicate, length-replicate}
 use Rattle.std.proofs.Math.ListN.{get_or-eq_default}
 use Rattle.line_map.specs.Sizes.{Sizes}
@@ -72,15 +72,11 @@ narrowed nodes marks busy few agree inside (Some lane) is = record {
     within : (lane.0 < nodes) × (lane.1 < nodes)
     within = inside lane.0 lane.1 lane.2 found
 
-and-right : (a b : Bool) → (a && b) ≡ true → b ≡ true
-and-right true b e = e
-and-right false b e = absurd (let never : false ≡ true = e in cc)
-
 pub next_of_marks : (queues : Queues) (counts masks : List ℕ) → AreCounted queues counts masks → (here : Lane) (answer : Option (ℕ × ℕ × Class)) → AnswersFirst 64 (behind here (marks_of masks)) answer → AnswersFirst queues.sizes.nodes (behind here (busy_in (lane_in queues))) answer
 next_of_marks queues counts masks are here answer is =
     narrowed queues.sizes.nodes (behind here (marks_of masks)) (behind here (busy_in (lane_in queues))) are.few
     (λ a b k from to. ap (λ t. lane_before here (lane_named (a, b, k)) && t) (are.marks a b k from to))
-    (λ a b k found. below_nodes queues a b k (and-right (lane_before here (lane_named (a, b, k))) (busy_in (lane_in queues) a b k) found)) answer is
+    (λ a b k found. below_nodes queues a b k (and_parts (lane_before here (lane_named (a, b, k))) (busy_in (lane_in queues) a b k) found).1) answer is
 
 pub answer_busy : (queues : Queues) (answer : Option (ℕ × ℕ × Class)) → AnswersFirst queues.sizes.nodes (busy_in (lane_in queues)) answer → IfSome answer (IsBusy (meaning_of queues))
 answer_busy queues None quiet = tt

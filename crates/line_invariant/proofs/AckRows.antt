@@ -8,10 +8,11 @@ use Rattle.op_model.specs.Operations.{Words, after_op}
 use Rattle.op_model.specs.Messages.{Content, InvAck, PutX}
 use Rattle.op_model.specs.Lines.{Copy, Absent, Shared, Exclusive, Room, sending, no_message}
 use Rattle.op_model.specs.Tables.Home.{on_inv_ack, grant, grantee_of}
+use Rattle.op_model.proofs.Plain.{eqb-self}
 use Rattle.line_invariant.specs.Line.{Line, share_of, after_row, after_take, taken}
 use Rattle.line_invariant.specs.Good.{is_put, Status, Resting, Granted, Duty, NoDuty, Acked, Phase, Clean, HomeOwns, Owned, Called, Asked, SharedOut, HandedOn, Recalled, Bare, ByGrant, role_in, IsGoodNode, IsGood, IsGoodHeader, IsGoodHome, IsOnDuty, IsCarried, answer_part, IsGrantee, IsFreshCopy, IsSharedOnly, Answered}
 use Rattle.line_invariant.specs.Rows.{wanting}
-use Rattle.line_invariant.proofs.Basics.{eq-self, if-either, alone}
+use Rattle.line_invariant.proofs.Basics.{if-either, alone}
 use Rattle.line_invariant.proofs.Fronts.{ack-comes}
 use Rattle.line_invariant.proofs.Meets.{by-row, does-ack}
 use Rattle.line_invariant.proofs.HomeLanes.{lanes-ack, lanes-all-in, lanes-all-quiet, lanes-handed, all_in, handed_to}
@@ -35,7 +36,7 @@ called-phase home words (HandedOn r o h) p lists duty on acked = absurd (grind a
 home-done : (home p : ℕ) (words : Words) (copy copy' : Copy) (status : Status) → p ≢ home → (want : Option Want) → IsGoodHome home (Called Me) words copy want status → (next : Words) →
     IsGoodHome home HomeOwns next copy' None (record { carrier = cond (home == home) Resting status.carrier; leaving = status.leaving; duty = cond (home == p) NoDuty status.duty })
 home-done home p words copy copy' status apart want good next =
-    let on : (home == home) ≡ true = eq-self home in
+    let on : (home == home) ≡ true = eqb-self home in
     let off : (home == p) ≡ false = grind (arith, nat_tests) in
     record { carried = rw on; stays = good.stays; off_duty = rw off good.off_duty; carrier = rw on }
 
@@ -92,7 +93,7 @@ module _ (home : ℕ) (line : Line) (good : IsGood home line) (p : ℕ) (apart :
       let at_home : IsGoodHome home (Called Nobody) line.words (line.copy home) (line.want home) (good.status home) = rw phase at good.at_home in
       let one : count line.header.list ≡ 1 = let e = header.4 in let above = header.3 in grind (arith, nat_tests) in
       let rid : (q : ℕ) → listed (unlist line.header.list p) q ≡ false = alone line.header.list p lists one in
-      let on : (home == home) ≡ true = eq-self home in
+      let on : (home == home) ≡ true = eqb-self home in
       let off : (home == p) ≡ false = grind (arith, nat_tests) in
       home-step-all home line (grant Nobody want (unlist line.header.list p) (share_of line home)) Clean (all_in home p good.status) (taken p home Reply rest line.lane)
       (at-one line.answered good.status good.answered home Resting (sym (ap is_put at_home.carrier)))
@@ -119,7 +120,7 @@ module _ (home : ℕ) (line : Line) (good : IsGood home line) (p : ℕ) (apart :
       let at_home : IsGoodHome home (Called (Node n)) line.words (line.copy home) (line.want home) (good.status home) = rw phase at good.at_home in
       let one : count line.header.list ≡ 1 = let e = header.4 in let above = header.3 in grind (arith, nat_tests) in
       let rid : (q : ℕ) → listed (unlist line.header.list p) q ≡ false = alone line.header.list p lists one in
-      let waits : IsGoodNode (Bare ByGrant NoDuty) line.words (listed line.header.list n) (line.copy n) (line.want n) (good.status n) = rw (eq-self n) at (rw phase at (good.nodes n header.7.0)) in
+      let waits : IsGoodNode (Bare ByGrant NoDuty) line.words (listed line.header.list n) (line.copy n) (line.want n) (good.status n) = rw (eqb-self n) at (rw phase at (good.nodes n header.7.0)) in
       let off : (home == p) ≡ false = grind (arith, nat_tests) in
       let off_n : (home == n) ≡ false = let f = header.7.0 in grind (arith, nat_tests) in
       let empty_copy : line.copy home ≡ Absent = no-copy (line.copy home) line.words header.5 header.6 in

@@ -1,6 +1,8 @@
 -- A PutX elsewhere, and each answer at the home, keep the line good.
 -- An answer at the home tells the phase by the home's own carrier.
 use Rattle.std.proofs.Common.{◌≡◌, ◌≢◌, ℕ, Bool, true, false, cond, ◌==◌, List, [], refl, arith, ap, sym, None}
+use Rattle.std.proofs.Math.Bool.{and-false}
+use Rattle.std.proofs.lemmas.Bool.{ne_eqb}
 use Rattle.std.proofs.lemmas.Bool.Decides.{nat_tests}
 use Rattle.line_invariant.specs.Types.{Op, Nobody, Me, Node, Idle, NakCause, Class, Request, Reply}
 use Rattle.op_model.specs.Nodes.{listed, none, listed-none}
@@ -9,10 +11,10 @@ use Rattle.op_model.specs.Messages.{Content, Put, PutX, Nak}
 use Rattle.op_model.specs.Lines.{Shared, Exclusive, NoService, Own, no_message}
 use Rattle.op_model.specs.Tables.Remote.{on_nak}
 use Rattle.op_model.specs.Events.Step.{put_at}
+use Rattle.op_model.proofs.Plain.{eqb-self}
 use Rattle.line_invariant.specs.Line.{Lanes, Line, share_of, after_row, sent, taken}
 use Rattle.line_invariant.specs.Good.{is_put, Status, Carrier, Resting, Answered, NoDuty, Phase, Clean, HomeOwns, Owned, Called, Asked, SharedOut, HandedOn, Bare, Usual, reply_part, expected, IsGoodNode, IsGood, IsHomeCarrier, IsAskedBy}
 use Rattle.line_invariant.specs.Rows.{wanting}
-use Rattle.line_invariant.proofs.Basics.{eq-self, eq-apart, and-false}
 use Rattle.line_invariant.proofs.RemoteLanes.{lanes-answer}
 use Rattle.line_invariant.proofs.LocalNodes.{node-putx, held-header, held-home, held-alone, role-same, bare-any}
 use Rattle.line_invariant.proofs.Marks.{keep, done}
@@ -124,8 +126,8 @@ module _ (home : ℕ) (line : Line) (good : IsGood home line) (rest : List Conte
       (lanes-home-answer home from line.lane good.status good.lanes (Put has) rest left answered)
       (refl, refl, is.1, tt, (is.1, tt))
       refl good.unlisted
-      (rw (eq-self home) (record { carried = refl; stays = at_home.stays; off_duty = at_home.off_duty; carrier = refl }))
-      (λ node far. rw (eq-apart node home far) (rw (eq-self home, and-false) at (rw is.0 at (good.nodes node far))))
+      (rw (eqb-self home) (record { carried = refl; stays = at_home.stays; off_duty = at_home.off_duty; carrier = refl }))
+      (λ node far. rw (ne_eqb node home far) (rw (eqb-self home, and-false) at (rw is.0 at (good.nodes node far))))
 
   -- the home's write is done
   pub good-home-putx : (from : ℕ) (has : Words) (op : Op) (marked : Bool) → rest ≡ reply_part (good.status from).duty → (good.status home).carrier ≡ Answered from (PutX has) → line.want home ≡ wanting op marked →
@@ -138,8 +140,8 @@ module _ (home : ℕ) (line : Line) (good : IsGood home line) (rest : List Conte
       (lanes-home-answer home from line.lane good.status good.lanes (PutX has) rest left answered)
       (refl, refl, refl, ap (λ w. Exclusive (after_op op w)) is.2)
       refl (listed-none home)
-      (rw (eq-self home) (record { carried = refl; stays = at_home.stays; off_duty = at_home.off_duty; carrier = refl }))
-      (λ node far. rw (eq-apart node home far) (home-has node (node == from) is.0 (rw (eq-self home, eq-apart node home far, and-false) at (rw is.1 at (good.nodes node far)))))
+      (rw (eqb-self home) (record { carried = refl; stays = at_home.stays; off_duty = at_home.off_duty; carrier = refl }))
+      (λ node far. rw (ne_eqb node home far) (home-has node (node == from) is.0 (rw (eqb-self home, ne_eqb node home far, and-false) at (rw is.1 at (good.nodes node far)))))
     where
       home-has : (node : ℕ) (c : Bool) (h : Bool) → IsGoodNode (cond c (Bare Usual NoDuty) (Bare Usual NoDuty)) line.words (listed line.header.list node) (line.copy node) (line.want node) (good.status node) →
           IsGoodNode (Bare Usual NoDuty) (after_op op line.words) (listed none node) (line.copy node) (line.want node) (good.status node)
@@ -157,5 +159,5 @@ module _ (home : ℕ) (line : Line) (good : IsGood home line) (rest : List Conte
       (keep line.answered good.status good.answered home _ (sym (ap is_put answered)))
       (lanes-home-answer home from line.lane good.status good.lanes (Nak cause) rest left answered)
       good.header good.local good.unlisted
-      (rw (eq-self home) (record { carried = refl; stays = at_home.stays; off_duty = at_home.off_duty; carrier = rw (is.2, eq-self home) tt }))
-      (λ node far. rw (eq-apart node home far) (good.nodes node far))
+      (rw (eqb-self home) (record { carried = refl; stays = at_home.stays; off_duty = at_home.off_duty; carrier = rw (is.2, eqb-self home) tt }))
+      (λ node far. rw (ne_eqb node home far) (good.nodes node far))

@@ -1,6 +1,7 @@
 -- A row at a node that isn't the line's home neither reads nor changes the header. A message brings no copy to a node that has none and has begun nothing, and ends nothing there.
 -- By the tables alone, row by row.
 use Rattle.std.proofs.Common.{subst, ◌≡◌, ◌≢◌, ℕ, Bool, true, false, cond, nat_le, ◌==◌, ◌&&◌, ◌||◌, not, refl, arith, ap, sym, ◌∙◌, Result, Ok, Err, Option, Some, None}
+use Rattle.std.proofs.lemmas.Bool.{ne_eqb}
 use Rattle.std.proofs.lemmas.Bool.Decides.{nat_tests}
 use Rattle.line_invariant.specs.Types.{Op, Want, Grantee, Nobody, Me, Node, Cause, EvictKind, NoCopy, WrongKind, HitFirst}
 use Rattle.op_model.specs.declared.events.EvictKind.TheVariants as way
@@ -12,7 +13,7 @@ use Rattle.op_model.specs.Tables.Processor.{serves, ask, begin_op, begin_at_home
 use Rattle.op_model.specs.Tables.Home.{on_get, on_getx, on_inv_ack, on_shwb, on_fack, on_nakc, on_wb, on_rpl, grant, grantee_of, lacks_link, no_other}
 use Rattle.op_model.specs.Tables.Remote.{on_message, row_of, meets, on_inv, on_nak, on_put, on_putx, on_fwd_get, on_fwd_getx, waits_load, waits_write, asks_well, is_forward_get, is_forward_getx}
 use Rattle.line_invariant.specs.Rows.{wanting, with_header, with_header_ok}
-use Rattle.line_invariant.proofs.Basics.{eq-apart, if-either}
+use Rattle.line_invariant.proofs.Basics.{if-either}
 
 either-header : (h : Header) (c : Bool) (x y : Outcome) → with_header h (cond c x y) ≡ cond c (with_header h x) (with_header h y)
 either-header h true x y = refl
@@ -21,41 +22,41 @@ either-header h false x y = refl
 module _ (me home : ℕ) (apart : me ≢ home) (share : LineShare) (h : Header) where
   away-row : (from : ℕ) (alone : Bool) (room : Room) (content : Content) → meets me home from alone content share ≡ true → row_of me home from room content (record share { header = h }) ≡ with_header h (row_of me home from room content share)
   unfolding meets row_of on_inv on_nak on_put on_putx on_fwd_get on_fwd_getx
-  away-row from alone room Get met = let off = eq-apart me home apart in absurd (grind arith)
-  away-row from alone room GetX met = let off = eq-apart me home apart in absurd (grind arith)
+  away-row from alone room Get met = let off = ne_eqb me home apart in absurd (grind arith)
+  away-row from alone room GetX met = let off = ne_eqb me home apart in absurd (grind arith)
   away-row from alone room (FwdGet r) met = sym (either-header h (is_exclusive share.copy) _ _)
   away-row from alone room (FwdGetX r) met = sym (either-header h (is_exclusive share.copy) _ _)
   away-row from alone room Inv met = refl
-  away-row from alone room (Wb words) met = let off = eq-apart me home apart in absurd (grind arith)
-  away-row from alone room Rpl met = let off = eq-apart me home apart in absurd (grind arith)
-  away-row from alone room (Put words) met = rw (eq-apart me home apart) refl
-  away-row from alone room (PutX words) met = let off = eq-apart me home apart in ap (λ c. on_putx c words (record share { header = h })) off ∙ by-want share.want ∙ ap (λ c. with_header h (on_putx c words share)) (sym off)
+  away-row from alone room (Wb words) met = let off = ne_eqb me home apart in absurd (grind arith)
+  away-row from alone room Rpl met = let off = ne_eqb me home apart in absurd (grind arith)
+  away-row from alone room (Put words) met = rw (ne_eqb me home apart) refl
+  away-row from alone room (PutX words) met = let off = ne_eqb me home apart in ap (λ c. on_putx c words (record share { header = h })) off ∙ by-want share.want ∙ ap (λ c. with_header h (on_putx c words share)) (sym off)
     where
       by-want : (want : Option Want) → on_putx false words (record { copy = share.copy; want = want; header = h }) ≡ with_header h (on_putx false words (record share { want = want }))
       by-want None = refl
       by-want (Some want) = refl
   away-row from alone room (Nak cause) met = refl
-  away-row from alone room InvAck met = let off = eq-apart me home apart in absurd (grind arith)
-  away-row from alone room (ShWb words) met = let off = eq-apart me home apart in absurd (grind arith)
-  away-row from alone room FAck met = let off = eq-apart me home apart in absurd (grind arith)
-  away-row from alone room Nakc met = let off = eq-apart me home apart in absurd (grind arith)
+  away-row from alone room InvAck met = let off = ne_eqb me home apart in absurd (grind arith)
+  away-row from alone room (ShWb words) met = let off = ne_eqb me home apart in absurd (grind arith)
+  away-row from alone room FAck met = let off = ne_eqb me home apart in absurd (grind arith)
+  away-row from alone room Nakc met = let off = ne_eqb me home apart in absurd (grind arith)
 
   pub away-meets : (from : ℕ) (alone : Bool) (content : Content) → meets me home from alone content (record share { header = h }) ≡ meets me home from alone content share
   unfolding meets
-  away-meets from alone Get = rw (eq-apart me home apart) refl
-  away-meets from alone GetX = rw (eq-apart me home apart) refl
+  away-meets from alone Get = rw (ne_eqb me home apart) refl
+  away-meets from alone GetX = rw (ne_eqb me home apart) refl
   away-meets from alone (FwdGet r) = refl
   away-meets from alone (FwdGetX r) = refl
   away-meets from alone Inv = refl
-  away-meets from alone (Wb words) = rw (eq-apart me home apart) refl
+  away-meets from alone (Wb words) = rw (ne_eqb me home apart) refl
   away-meets from alone Rpl = refl
-  away-meets from alone (Put words) = rw (eq-apart me home apart) refl
-  away-meets from alone (PutX words) = rw (eq-apart me home apart) refl
-  away-meets from alone (Nak cause) = rw (eq-apart me home apart) refl
-  away-meets from alone InvAck = rw (eq-apart me home apart) refl
-  away-meets from alone (ShWb words) = rw (eq-apart me home apart) refl
-  away-meets from alone FAck = rw (eq-apart me home apart) refl
-  away-meets from alone Nakc = rw (eq-apart me home apart) refl
+  away-meets from alone (Put words) = rw (ne_eqb me home apart) refl
+  away-meets from alone (PutX words) = rw (ne_eqb me home apart) refl
+  away-meets from alone (Nak cause) = rw (ne_eqb me home apart) refl
+  away-meets from alone InvAck = rw (ne_eqb me home apart) refl
+  away-meets from alone (ShWb words) = rw (ne_eqb me home apart) refl
+  away-meets from alone FAck = rw (ne_eqb me home apart) refl
+  away-meets from alone Nakc = rw (ne_eqb me home apart) refl
 
   pub away-message : (from : ℕ) (alone : Bool) (room : Room) (content : Content) → on_message me home from alone room content (record share { header = h }) ≡ with_header h (on_message me home from alone room content share)
   unfolding on_message
@@ -69,7 +70,7 @@ module _ (me home : ℕ) (apart : me ≢ home) (share : LineShare) (h : Header) 
 
   pub away-begin : (room : Room) (op : Op) → begin_op me home room op (record share { header = h }) ≡ with_header_ok h (begin_op me home room op share)
   unfolding begin_op ask
-  away-begin room op = rw (eq-apart me home apart) (go (serves op share.copy) (is_load op.kind))
+  away-begin room op = rw (ne_eqb me home apart) (go (serves op share.copy) (is_load op.kind))
     where
       go : (c d : Bool) → ◌≡◌ {A = Result Outcome Cause} (cond c (Err HitFirst) (Ok (cond d (sending (record { copy = share.copy; want = begun op; header = h }) (one_to home Get)) (sending (record { copy = without_shared share.copy; want = begun op; header = h }) (one_to home GetX))))) (with_header_ok h (cond c (Err HitFirst) (Ok (cond d (sending (record share { want = begun op }) (one_to home Get)) (sending (record share { want = begun op; copy = without_shared share.copy }) (one_to home GetX))))))
       go true d = refl
@@ -78,7 +79,7 @@ module _ (me home : ℕ) (apart : me ≢ home) (share : LineShare) (h : Header) 
 
   pub away-evict : (kind : EvictKind) → evict me home kind (record share { header = h }) ≡ with_header_ok h (evict me home kind share)
   unfolding evict
-  away-evict kind = rw (eq-apart me home apart) (go kind (fits false kind share.copy))
+  away-evict kind = rw (ne_eqb me home apart) (go kind (fits false kind share.copy))
     where
       go : (kind : EvictKind) (c : Bool) → cond c (Ok (leave_remote home kind (record share { header = h }))) (Err (elim share.copy [ Absent ↦ NoCopy | _ ↦ WrongKind ])) ≡ with_header_ok h (cond c (Ok (leave_remote home kind share)) (Err (elim share.copy [ Absent ↦ NoCopy | _ ↦ WrongKind ])))
       go way.Wb true = refl

@@ -1,6 +1,8 @@
 -- The owner's reply to the home, a ShWb, a FAck or a Nakc, keeps the line good.
 -- The reply under way tells the phase, and the phase after it is told by whether the line is still held.
 use Rattle.std.proofs.Common.{◌≡◌, ◌≢◌, ℕ, Bool, true, false, cond, ◌==◌, ◌&&◌, ◌||◌, not, List, [], refl, arith, ap, sym, ◌∙◌, Option}
+use Rattle.std.proofs.Math.Bool.{and-false}
+use Rattle.std.proofs.lemmas.Bool.{ne_eqb}
 use Rattle.std.proofs.lemmas.Bool.Decides.{nat_tests}
 use Rattle.line_invariant.specs.Types.{Want, Nobody, Me, Node, ForwardGet, ForwardGetX, Class, Request, Reply}
 use Rattle.op_model.specs.Nodes.{listed, enlist, unlist, none, only, listings, same_nodes, listed-none}
@@ -9,9 +11,9 @@ use Rattle.op_model.specs.Messages.{Content}
 use Rattle.op_model.specs.Lines.{Copy, no_message}
 use Rattle.op_model.specs.Tables.Home.{on_shwb, on_fack, on_nakc, requester_of}
 use Rattle.op_model.specs.Events.Step.{put_at}
+use Rattle.op_model.proofs.Plain.{eqb-self}
 use Rattle.line_invariant.specs.Line.{Lanes, Line, share_of, after_row, sent, taken}
 use Rattle.line_invariant.specs.Good.{Status, Carrier, Resting, Duty, NoDuty, ToGive, Returned, Handed, Refused, Phase, Clean, HomeOwns, Owned, Called, Asked, SharedOut, HandedOn, MayShare, Bare, Holds, Usual, ByForward, asked_role, asked_list, told_part, answer_part, expected, role_in, IsGoodNode, IsGood, IsGoodHeader, IsGoodHome, IsOnDuty, IsAskedBy}
-use Rattle.line_invariant.proofs.Basics.{eq-self, eq-apart, and-false}
 use Rattle.line_invariant.proofs.ForwardNodes.{node-bare-shares}
 use Rattle.line_invariant.proofs.HomeRows.{home-rests}
 use Rattle.line_invariant.proofs.Marks.{keep}
@@ -123,7 +125,7 @@ module _ (home : ℕ) (line : Line) (good : IsGood home line) (p : ℕ) (apart :
   good-shwb r has phase far same duty =
       let header : IsGoodHeader home (SharedOut r p) line.words line.header (line.copy home) = rw phase at good.header in
       let at_home : IsGoodHome home (SharedOut r p) line.words (line.copy home) (line.want home) (good.status home) = rw phase at good.at_home in
-      let off : (r == home) ≡ false = eq-apart r home far in
+      let off : (r == home) ≡ false = ne_eqb r home far in
       home-step home p line good apart (on_shwb has (share_of line home)) Clean (record (good.status p) { duty = NoDuty }) (taken p home Reply rest line.lane)
       (keep line.answered good.status good.answered p _ refl)
       (lanes-back home p line.lane good.status apart good.lanes rest empty (rw duty) quiet)
@@ -131,7 +133,7 @@ module _ (home : ℕ) (line : Line) (good : IsGood home line) (p : ℕ) (apart :
       good.local good.unlisted
       (home-rests home (SharedOut r p) Clean line.words line.words (line.copy home) _ (line.want home) (good.status home) at_home (rw off at at_home.carrier) refl)
       (node-keeps line.words _ (line.copy p) (line.want p) (good.status p) _ NoDuty _ (rw phase at (good.nodes p apart)) refl)
-      (λ node far other. rw (eq-apart node p other) at (rw phase at (good.nodes node far)))
+      (λ node far other. rw (ne_eqb node p other) at (rw phase at (good.nodes node far)))
 
   -- the owner has handed its copy on
   pub good-fack : (r : ℕ) (holds : Bool) → good.phase ≡ HandedOn r p holds → r ≢ home → (good.status p).duty ≡ Handed →
@@ -140,7 +142,7 @@ module _ (home : ℕ) (line : Line) (good : IsGood home line) (p : ℕ) (apart :
   good-fack r true phase far duty =
       let header : IsGoodHeader home (HandedOn r p true) line.words line.header (line.copy home) = rw phase at good.header in
       let at_home : IsGoodHome home (HandedOn r p true) line.words (line.copy home) (line.want home) (good.status home) = rw phase at good.at_home in
-      let off : (r == home) ≡ false = eq-apart r home far in
+      let off : (r == home) ≡ false = ne_eqb r home far in
       let list : cond line.header.dirty (only (requester_of line.header.wait)) none ≡ only r = ap (λ d. cond d (only (requester_of line.header.wait)) none) header.1 ∙ ap (λ w. only (requester_of w)) header.0 in
       let apart_r : p ≢ r = λ e. header.6 (sym e) in
       let far' : home ≢ r = λ e. far (sym e) in
@@ -150,12 +152,12 @@ module _ (home : ℕ) (line : Line) (good : IsGood home line) (p : ℕ) (apart :
       (refl, header.1, list, header.4, far)
       good.local (ap (λ l. listed l home) list ∙ grind (arith, nat_tests, listings))
       (home-rests home (HandedOn r p true) (Owned r) line.words line.words (line.copy home) _ (line.want home) (good.status home) at_home (rw off at at_home.carrier) refl)
-      (rw (eq-apart p r apart_r) (node-off line.words _ (line.copy p) (line.want p) (good.status p) _ NoDuty _ (rw (eq-self p) at (rw phase at (good.nodes p apart)))))
-      (λ node far other. relist line.words _ (line.copy node) (line.want node) (good.status node) (node == r) _ (rw (eq-apart node p other) at (rw phase at (good.nodes node far))))
+      (rw (ne_eqb p r apart_r) (node-off line.words _ (line.copy p) (line.want p) (good.status p) _ NoDuty _ (rw (eqb-self p) at (rw phase at (good.nodes p apart)))))
+      (λ node far other. relist line.words _ (line.copy node) (line.want node) (good.status node) (node == r) _ (rw (ne_eqb node p other) at (rw phase at (good.nodes node far))))
   good-fack r false phase far duty =
       let header : IsGoodHeader home (HandedOn r p false) line.words line.header (line.copy home) = rw phase at good.header in
       let at_home : IsGoodHome home (HandedOn r p false) line.words (line.copy home) (line.want home) (good.status home) = rw phase at good.at_home in
-      let off : (r == home) ≡ false = eq-apart r home far in
+      let off : (r == home) ≡ false = ne_eqb r home far in
       let list : cond line.header.dirty (only (requester_of line.header.wait)) none ≡ none = ap (λ d. cond d (only (requester_of line.header.wait)) none) header.1 in
       home-step home p line good apart (on_fack (share_of line home)) Clean (record (good.status p) { duty = NoDuty }) (taken p home Reply rest line.lane)
       (keep line.answered good.status good.answered p _ refl)
@@ -163,8 +165,8 @@ module _ (home : ℕ) (line : Line) (good : IsGood home line) (p : ℕ) (apart :
       (refl, header.1, header.2, rw header.4 tt, rw header.4 tt)
       good.local (ap (λ l. listed l home) list ∙ listed-none home)
       (home-rests home (HandedOn r p false) Clean line.words line.words (line.copy home) _ (line.want home) (good.status home) at_home (rw off at at_home.carrier) refl)
-      (node-off-shares line.words _ (line.copy p) (line.want p) (good.status p) _ NoDuty _ (rw (eq-self p) at (rw phase at (good.nodes p apart))))
-      (λ node far other. node-bare-shares line.words _ (line.copy node) (line.want node) (good.status node) NoDuty _ (rw (eq-apart node p other) at (rw phase at (good.nodes node far))))
+      (node-off-shares line.words _ (line.copy p) (line.want p) (good.status p) _ NoDuty _ (rw (eqb-self p) at (rw phase at (good.nodes p apart))))
+      (λ node far other. node-bare-shares line.words _ (line.copy node) (line.want node) (good.status node) NoDuty _ (rw (ne_eqb node p other) at (rw phase at (good.nodes node far))))
 
   -- the owner had nothing to give
   pub good-nakc : (w : Bool) (r : ℕ) (holds : Bool) → good.phase ≡ Asked w r p true holds → (good.status p).duty ≡ Refused →
@@ -184,8 +186,8 @@ module _ (home : ℕ) (line : Line) (good : IsGood home line) (p : ℕ) (apart :
       (refl, header.1, list, header.4, apart)
       good.local (ap (λ l. listed l home) list ∙ grind (arith, nat_tests, listings))
       (home-rests home (Asked w r p true true) (Owned p) line.words line.words (line.copy home) _ (line.want home) (good.status home) at_home rests refl)
-      (rw (eq-self p) (node-still-holds line.words _ (line.copy p) (line.want p) (good.status p) Refused NoDuty _ (rw (eq-self p) at (rw phase at (good.nodes p apart)))))
-      (λ node far other. rw (eq-apart node p other) (relist line.words _ (line.copy node) (line.want node) (good.status node) false _ (rw (eq-apart node p other, and-false) at (rw phase at (good.nodes node far)))))
+      (rw (eqb-self p) (node-still-holds line.words _ (line.copy p) (line.want p) (good.status p) Refused NoDuty _ (rw (eqb-self p) at (rw phase at (good.nodes p apart)))))
+      (λ node far other. rw (ne_eqb node p other) (relist line.words _ (line.copy node) (line.want node) (good.status node) false _ (rw (ne_eqb node p other, and-false) at (rw phase at (good.nodes node far)))))
     where
       either : (c : Bool) → requester_of (cond c (ForwardGetX r) (ForwardGet r)) ≡ r
       either true = refl
@@ -201,5 +203,5 @@ module _ (home : ℕ) (line : Line) (good : IsGood home line) (p : ℕ) (apart :
       (refl, header.1, header.2, rw header.4 tt, rw header.4 tt)
       good.local (ap (λ l. listed l home) list ∙ listed-none home)
       (home-rests home (Asked w r p true false) Clean line.words line.words (line.copy home) _ (line.want home) (good.status home) at_home rests refl)
-      (node-off-shares line.words _ (line.copy p) (line.want p) (good.status p) _ NoDuty _ (rw (eq-self p) at (rw phase at (good.nodes p apart))))
-      (λ node far other. node-bare-shares line.words _ (line.copy node) (line.want node) (good.status node) NoDuty _ (rw (eq-apart node p other, and-false) at (rw phase at (good.nodes node far))))
+      (node-off-shares line.words _ (line.copy p) (line.want p) (good.status p) _ NoDuty _ (rw (eqb-self p) at (rw phase at (good.nodes p apart))))
+      (λ node far other. node-bare-shares line.words _ (line.copy node) (line.want node) (good.status node) NoDuty _ (rw (ne_eqb node p other, and-false) at (rw phase at (good.nodes node far))))

@@ -1,15 +1,8 @@
 -- Tests on nodes, and small facts on sets of nodes.
 -- Each test of two numbers is decided; a set that lists one node is known by its count.
-use Rattle.std.proofs.Common.{◌≡◌, ◌≢◌, ℕ, Bool, true, false, cond, ◌==◌, ◌&&◌, refl, arith, ◌∙◌}
-use Rattle.std.proofs.lemmas.Bool.Decides.{nat_tests}
+use Rattle.std.proofs.Common.{◌≡◌, ℕ, Bool, true, false, cond, refl, arith, ◌∙◌}
 use Rattle.op_model.specs.Nodes.{Nodes, listed, unlist, count, none, only, listings, none_of_count, count-unlist, listed-none, in_order-only}
 use Rattle.op_model.specs.Lines.{Header, owner}
-
-pub eq-self : (n : ℕ) → (n == n) ≡ true
-eq-self n = grind (arith, nat_tests)
-
-pub eq-apart : (n m : ℕ) → n ≢ m → (n == m) ≡ false
-eq-apart n m h = grind (arith, nat_tests)
 
 pub if-either : {A : Type 0} (P : A → Type 0) (b : Bool) (x y : A) → (b ≡ true → P x) → (b ≡ false → P y) → P (cond b x y)
 if-either P true x y h k = h refl
@@ -26,14 +19,3 @@ not-none s p has zero = let e = none_of_count s zero in grind (arith, listings)
 
 pub owner-only : (header : Header) (o : ℕ) → header.list ≡ only o → owner header ≡ o
 owner-only header o e = rw (e, in_order-only)
-
-pub eq-swap : (n m : ℕ) → (n == m) ≡ (m == n)
-eq-swap n m = grind (arith, nat_tests)
-
-pub and-true : (b : Bool) → (b && true) ≡ b
-and-true true = refl
-and-true false = refl
-
-pub and-false : (b : Bool) → (b && false) ≡ false
-and-false true = refl
-and-false false = refl

@@ -1,6 +1,8 @@
 -- A forward at the owner keeps the line good: the owner shares its copy, hands it on, or says that it is gone.
 -- The forward under way tells the phase and the requester, whose operation waits for this answer.
 use Rattle.std.proofs.Common.{◌≡◌, ◌≢◌, ℕ, Bool, true, false, cond, ◌==◌, ◌&&◌, ◌||◌, not, List, [], ◌∷◌, refl, arith, ap, sym, ◌∙◌}
+use Rattle.std.proofs.Math.Bool.{and-true, and-false}
+use Rattle.std.proofs.lemmas.Bool.{ne_eqb}
 use Rattle.std.proofs.lemmas.Bool.Decides.{nat_tests}
 use Rattle.line_invariant.specs.Types.{Gone, Request}
 use Rattle.op_model.specs.Nodes.{listed, enlist, only, listings}
@@ -8,9 +10,9 @@ use Rattle.op_model.specs.Operations.{Words}
 use Rattle.op_model.specs.Messages.{Content, Put, PutX, Nak}
 use Rattle.op_model.specs.Lines.{Absent, Shared, Exclusive, For, sending}
 use Rattle.op_model.specs.Tables.Remote.{gone}
+use Rattle.op_model.proofs.Plain.{eqb-self, eqb-swap}
 use Rattle.line_invariant.specs.Line.{Line, share_of, after_row, taken}
 use Rattle.line_invariant.specs.Good.{is_put, Forwarded, Answered, Duty, NoDuty, ToGive, Returned, Handed, Refused, Asked, SharedOut, HandedOn, MayShare, Bare, Usual, ByForward, asked_role, asked_list, told_part, IsGoodNode, IsGood, IsGoodHeader, IsGoodHome}
-use Rattle.line_invariant.proofs.Basics.{eq-self, eq-apart, eq-swap, and-true, and-false}
 use Rattle.line_invariant.proofs.ForwardLanes.{answered_by, backs, lanes-answered}
 use Rattle.line_invariant.proofs.ForwardNodes.{node-gets, node-gets-all, node-fails, node-shares, node-gives, node-refuses, node-bare-shares, home-fails, home-gets, home-gets-all}
 use Rattle.line_invariant.proofs.Marks.{at-one, at-one-gets}
@@ -24,7 +26,7 @@ asked-owner home write r p = go (write || (r == home))
     go false = grind (arith, nat_tests, listings)
 
 asked-requester : (home r p : ℕ) → r ≢ home → listed (asked_list home false r p) r ≡ true
-asked-requester home r p far = rw (eq-apart r home far) (grind (arith, nat_tests, listings))
+asked-requester home r p far = rw (ne_eqb r home far) (grind (arith, nat_tests, listings))
 
 module _ (home : ℕ) (line : Line) (good : IsGood home line) (p : ℕ) (apart : p ≢ home) (rest : List Content) (empty : rest ≡ []) (write : Bool) (r : ℕ) (holds : Bool)
     (phase : good.phase ≡ Asked write r p false holds) (duty : (good.status p).duty ≡ ToGive write r) where
@@ -35,17 +37,17 @@ module _ (home : ℕ) (line : Line) (good : IsGood home line) (p : ℕ) (apart :
   at_home_is = rw phase at good.at_home
 
   it_is : IsGoodNode (asked_role holds (ToGive write r)) line.words (listed line.header.list p) (line.copy p) (line.want p) (good.status p)
-  it_is = rw (eq-self p) at (rw phase at (good.nodes p apart))
+  it_is = rw (eqb-self p) at (rw phase at (good.nodes p apart))
 
   node_is : (node : ℕ) → node ≢ home → node ≢ p → IsGoodNode (Bare (cond (node == r) (ByForward write) Usual) NoDuty) line.words (listed line.header.list node) (line.copy node) (line.want node) (good.status node)
-  node_is node far other = simp (eq-apart node p other, and-true) at (rw phase at (good.nodes node far))
+  node_is node far other = simp (ne_eqb node p other, and-true) at (rw phase at (good.nodes node far))
 
   pub waits_is : (good.status r).carrier ≡ Forwarded write
   waits_is = go (r == home) refl
     where
       go : (c : Bool) → (r == home) ≡ c → (good.status r).carrier ≡ Forwarded write
       go true e = let same : r ≡ home = grind (arith, nat_tests) in let c : (good.status home).carrier ≡ Forwarded write = rw e at at_home_is.carrier in ap (λ k. (good.status k).carrier) same ∙ c
-      go false e = let far : r ≢ home = grind (arith, nat_tests) in (rw (eq-self r) at (node_is r far header_is.6)).waiting
+      go false e = let far : r ≢ home = grind (arith, nat_tests) in (rw (eqb-self r) at (node_is r far header_is.6)).waiting
 
   -- the owner has nothing to give
   pub good-gone : IsGood home (after_row home p (gone home r (share_of line p)) (record line { lane = taken home p Request rest line.lane }))
@@ -54,9 +56,9 @@ module _ (home : ℕ) (line : Line) (good : IsGood home line) (p : ℕ) (apart :
       (at-one line.answered good.status good.answered r (Answered p (Nak Gone)) (sym (ap is_put waits_is)))
       (lanes-answered home p line.lane good.status apart good.lanes write r rest empty duty waits_is header_is.6 (Nak Gone) refl Refused refl)
       header_is
-      (rw (eq-swap home r, eq-apart home p away) (home-fails home line.words r p holds (line.copy home) (line.want home) (good.status home) write (r == home) Gone refl at_home_is))
-      (rw (eq-self p, eq-apart p r differs) (node-refuses line.words _ (line.copy p) (line.want p) (good.status p) holds (ToGive write r) Refused it_is))
-      (λ node far other. rw (eq-apart node p other, and-false) (go node (node == r) refl (node_is node far other)))
+      (rw (eqb-swap home r, ne_eqb home p away) (home-fails home line.words r p holds (line.copy home) (line.want home) (good.status home) write (r == home) Gone refl at_home_is))
+      (rw (eqb-self p, ne_eqb p r differs) (node-refuses line.words _ (line.copy p) (line.want p) (good.status p) holds (ToGive write r) Refused it_is))
+      (λ node far other. rw (ne_eqb node p other, and-false) (go node (node == r) refl (node_is node far other)))
     where
       away : home ≢ p
       away e = apart (sym e)
@@ -84,9 +86,9 @@ module _ (home : ℕ) (line : Line) (good : IsGood home line) (p : ℕ) (apart :
       (at-one-gets line.answered good.status good.answered r (Answered p (Put has)) refl)
       (lanes-answered home p line.lane good.status apart good.lanes false r rest empty duty waits header.6 (Put has) refl next (rw next_is (quiet (r == home))))
       (header.0, header.1, header.3, header.4, header.5, header.6)
-      (rw (eq-swap home r, eq-apart home p away) (home-gets home line.words r p true (line.copy home) (line.want home) (good.status home) (r == home) has shares.1 refl at_home))
-      (rw (eq-self p, eq-apart p r (differs header.6), ← duty-is shares.1 (r == home), ← next_is) shares.0)
-      (λ node far other. rw (eq-apart node p other) (go node far (node == r) refl header.3 shares.1 (node_is home line good p apart rest empty false r true phase duty node far other)))
+      (rw (eqb-swap home r, ne_eqb home p away) (home-gets home line.words r p true (line.copy home) (line.want home) (good.status home) (r == home) has shares.1 refl at_home))
+      (rw (eqb-self p, ne_eqb p r (differs header.6), ← duty-is shares.1 (r == home), ← next_is) shares.0)
+      (λ node far other. rw (ne_eqb node p other) (go node far (node == r) refl header.3 shares.1 (node_is home line good p apart rest empty false r true phase duty node far other)))
     where
       away : home ≢ p
       away e = apart (sym e)
@@ -123,9 +125,9 @@ module _ (home : ℕ) (line : Line) (good : IsGood home line) (p : ℕ) (apart :
       (at-one line.answered good.status good.answered r (Answered p (PutX has)) (sym (ap is_put waits)))
       (lanes-answered home p line.lane good.status apart good.lanes true r rest empty duty waits header.6 (PutX has) refl next (rw next_is (quiet (r == home))))
       (header.0, header.1, tt, header.3, header.4, header.5, header.6, λ _. refl)
-      (rw (eq-swap home r, eq-apart home p away) (home-gets-all home line.words r p true (line.copy home) (line.want home) (good.status home) (r == home) has gives.1 refl at_home))
-      (rw (eq-self p, eq-apart p r (differs header.6), ← next_is) gives.0)
-      (λ node far other. rw (eq-apart node p other) (go node (node == r) gives.1 (node_is home line good p apart rest empty true r true phase duty node far other)))
+      (rw (eqb-swap home r, ne_eqb home p away) (home-gets-all home line.words r p true (line.copy home) (line.want home) (good.status home) (r == home) has gives.1 refl at_home))
+      (rw (eqb-self p, ne_eqb p r (differs header.6), ← next_is) gives.0)
+      (λ node far other. rw (ne_eqb node p other) (go node (node == r) gives.1 (node_is home line good p apart rest empty true r true phase duty node far other)))
     where
       away : home ≢ p
       away e = apart (sym e)

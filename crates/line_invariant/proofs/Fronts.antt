@@ -1,14 +1,15 @@
 -- What the first message of a lane tells of what is under way.
 -- The lane is spelled from the statuses, and each kind of message stands for one status alone.
 use Rattle.std.proofs.Common.{◌≡◌, ◌≢◌, ℕ, Bool, true, false, cond, ◌==◌, List, [], ◌∷◌, ◌++◌, arith, ap, sym, ◌∙◌, Option}
+use Rattle.std.proofs.lemmas.Bool.{ne_eqb}
 use Rattle.std.proofs.lemmas.Bool.Decides.{nat_tests}
 use Rattle.line_invariant.specs.Types.{Want, NakCause, Request, Reply, Nobody, Me, Node}
 use Rattle.op_model.specs.Operations.{Words}
 use Rattle.op_model.specs.Messages.{Content, Get, GetX, FwdGet, FwdGetX, Inv, Wb, Rpl, Put, PutX, Nak, InvAck, ShWb, FAck, Nakc, class_of}
 use Rattle.op_model.specs.Lines.{Copy}
+use Rattle.op_model.proofs.Plain.{eqb-self}
 use Rattle.line_invariant.specs.Line.{Line}
 use Rattle.line_invariant.specs.Good.{Carrier, Resting, Asking, AskingX, Answered, Leaving, NotLeaving, WritesBack, Hints, Duty, Told, Acked, ToGive, Returned, Handed, Refused, IsGood, leaving_part, asking_part, told_part, reply_part, answer_part, IsCarried, IsHomeCarrier, IsAskedBy, Phase, Clean, HomeOwns, Owned, Called, Asked, SharedOut, HandedOn}
-use Rattle.line_invariant.proofs.Basics.{eq-self, eq-apart}
 
 -- in the lane of requests to the home
 get-first : (leaving : Leaving) (carries : Carrier) (rest : List Content) → leaving_part leaving ++ asking_part carries ≡ Get ∷ rest → (leaving ≡ NotLeaving) × (carries ≡ Asking) × (rest ≡ [])
@@ -43,20 +44,20 @@ ack-first from want copy carries duty rest c e = grind (arith, nat_tests)
 
 module _ (home : ℕ) (line : Line) (good : IsGood home line) (p : ℕ) (apart : p ≢ home) (rest : List Content) where
   pub get-comes : line.lane p home Request ≡ Get ∷ rest → ((good.status p).leaving ≡ NotLeaving) × ((good.status p).carrier ≡ Asking) × (rest ≡ [])
-  get-comes front = get-first _ _ rest (sym (simp (eq-self home) at (good.lanes p home Request)) ∙ front)
+  get-comes front = get-first _ _ rest (sym (simp (eqb-self home) at (good.lanes p home Request)) ∙ front)
 
   pub getx-comes : line.lane p home Request ≡ GetX ∷ rest → ((good.status p).leaving ≡ NotLeaving) × ((good.status p).carrier ≡ AskingX) × (rest ≡ [])
-  getx-comes front = getx-first _ _ rest (sym (simp (eq-self home) at (good.lanes p home Request)) ∙ front)
+  getx-comes front = getx-first _ _ rest (sym (simp (eqb-self home) at (good.lanes p home Request)) ∙ front)
 
   pub wb-comes : (words : Words) → line.lane p home Request ≡ Wb words ∷ rest → ((good.status p).leaving ≡ WritesBack words) × (rest ≡ asking_part (good.status p).carrier)
-  wb-comes words front = wb-first _ _ words rest (sym (simp (eq-self home) at (good.lanes p home Request)) ∙ front)
+  wb-comes words front = wb-first _ _ words rest (sym (simp (eqb-self home) at (good.lanes p home Request)) ∙ front)
 
   pub rpl-comes : line.lane p home Request ≡ Rpl ∷ rest → ((good.status p).leaving ≡ Hints) × (rest ≡ asking_part (good.status p).carrier)
-  rpl-comes front = rpl-first _ _ rest (sym (simp (eq-self home) at (good.lanes p home Request)) ∙ front)
+  rpl-comes front = rpl-first _ _ rest (sym (simp (eqb-self home) at (good.lanes p home Request)) ∙ front)
 
   -- a request to another node than the home comes from the home
   request-from : (from : ℕ) → line.lane from p Request ≡ cond (from == home) (told_part (good.status p).duty) []
-  request-from from = simp (eq-apart p home apart) at (good.lanes from p Request)
+  request-from from = simp (ne_eqb p home apart) at (good.lanes from p Request)
 
   pub inv-comes : (from : ℕ) → line.lane from p Request ≡ Inv ∷ rest → (from ≡ home) × ((good.status p).duty ≡ Told) × (rest ≡ [])
   inv-comes from front = let e = request-from from in let t = inv-first (good.status p).duty rest in grind (arith, nat_tests)
@@ -64,12 +65,12 @@ module _ (home : ℕ) (line : Line) (good : IsGood home line) (p : ℕ) (apart :
   -- an answer to another node than the home
   pub answer-comes : (from : ℕ) (content : Content) → line.lane from p Reply ≡ content ∷ rest → ((good.status p).carrier ≡ Answered from content) × (rest ≡ [])
   answer-comes from content front =
-      let e : line.lane from p Reply ≡ answer_part from (good.status p).carrier ++ [] = simp (eq-apart p home apart) at (good.lanes from p Reply) in
+      let e : line.lane from p Reply ≡ answer_part from (good.status p).carrier ++ [] = simp (ne_eqb p home apart) at (good.lanes from p Reply) in
       let t = answer-first from (good.status p).carrier content rest in
       grind (arith, nat_tests)
 
   pub ack-comes : line.lane p home Reply ≡ InvAck ∷ rest → (answer_part p (good.status home).carrier ≡ []) × ((good.status p).duty ≡ Acked) × (rest ≡ [])
-  ack-comes front = ack-first p _ _ _ _ rest good.at_home.carried (sym (simp (eq-self home) at (good.lanes p home Reply)) ∙ front)
+  ack-comes front = ack-first p _ _ _ _ rest good.at_home.carried (sym (simp (eqb-self home) at (good.lanes p home Reply)) ∙ front)
 
 -- each lane carries its own class
 pub requests-only : (leaving : Leaving) (carries : Carrier) (content : Content) (rest : List Content) → leaving_part leaving ++ asking_part carries ≡ content ∷ rest → class_of content ≡ Request
@@ -127,26 +128,26 @@ silent-home home words (HandedOn r o h) carries is = handed (r == home) is
 module _ (home : ℕ) (line : Line) (good : IsGood home line) (from : ℕ) (content : Content) (rest : List Content) where
   -- at the home
   pub request-home : line.lane from home Request ≡ content ∷ rest → leaving_part (good.status from).leaving ++ asking_part (good.status from).carrier ≡ content ∷ rest
-  request-home front = sym (simp (eq-self home) at (good.lanes from home Request)) ∙ front
+  request-home front = sym (simp (eqb-self home) at (good.lanes from home Request)) ∙ front
 
   pub request-apart : line.lane from home Request ≡ content ∷ rest → from ≢ home
   request-apart front same =
       let at_home = good.at_home in
       let e : line.lane home home Request ≡ content ∷ rest = ap (λ k. line.lane k home Request) (sym same) ∙ front in
-      let l : leaving_part (good.status home).leaving ++ asking_part (good.status home).carrier ≡ content ∷ rest = sym (simp (eq-self home) at (good.lanes home home Request)) ∙ e in
+      let l : leaving_part (good.status home).leaving ++ asking_part (good.status home).carrier ≡ content ∷ rest = sym (simp (eqb-self home) at (good.lanes home home Request)) ∙ e in
       let s : asking_part (good.status home).carrier ≡ [] = silent-home home line.words good.phase _ at_home.carrier in
       let t : leaving_part (good.status home).leaving ≡ [] = rw at_home.stays in
       let none : [] ≡ content ∷ rest = sym (ap (λ xs. xs ++ asking_part (good.status home).carrier) t ∙ s) ∙ l in
       cc
 
   pub reply-home : line.lane from home Reply ≡ content ∷ rest → answer_part from (good.status home).carrier ++ reply_part (good.status from).duty ≡ content ∷ rest
-  reply-home front = sym (simp (eq-self home) at (good.lanes from home Reply)) ∙ front
+  reply-home front = sym (simp (eqb-self home) at (good.lanes from home Reply)) ∙ front
 
   -- elsewhere
   pub request-away : (p : ℕ) → p ≢ home → line.lane from p Request ≡ content ∷ rest → (from ≡ home) × (told_part (good.status p).duty ≡ content ∷ rest)
   request-away p apart front =
-      let e : line.lane from p Request ≡ cond (from == home) (told_part (good.status p).duty) [] = simp (eq-apart p home apart) at (good.lanes from p Request) in
+      let e : line.lane from p Request ≡ cond (from == home) (told_part (good.status p).duty) [] = simp (ne_eqb p home apart) at (good.lanes from p Request) in
       grind (arith, nat_tests)
 
   pub reply-away : (p : ℕ) → p ≢ home → line.lane from p Reply ≡ content ∷ rest → answer_part from (good.status p).carrier ++ [] ≡ content ∷ rest
-  reply-away p apart front = sym (simp (eq-apart p home apart) at (good.lanes from p Reply)) ∙ front
+  reply-away p apart front = sym (simp (ne_eqb p home apart) at (good.lanes from p Reply)) ∙ front

@@ -1,6 +1,7 @@
 -- A GetX at the home keeps the line good: the sender is given the line at once, after the acknowledgements of all other listed nodes, or by the owner.
 -- Where it is given, no other node has a copy.
 use Rattle.std.proofs.Common.{◌≡◌, ◌≢◌, ℕ, Bool, true, false, cond, ◌==◌, ◌&&◌, List, [], ◌∷◌, refl, arith, ap, sym, ◌∙◌, Option}
+use Rattle.std.proofs.lemmas.Bool.{ne_eqb}
 use Rattle.std.proofs.lemmas.Bool.Decides.{nat_tests}
 use Rattle.line_invariant.specs.Types.{Want, Node, Pending, Budget, Request}
 use Rattle.op_model.specs.Nodes.{listed, unlist, none, listings, listed-none, none_of_count}
@@ -8,9 +9,10 @@ use Rattle.op_model.specs.Operations.{Words}
 use Rattle.op_model.specs.Messages.{Content, GetX, PutX}
 use Rattle.op_model.specs.Lines.{Copy, Room, Outcome, is_pending, words_of}
 use Rattle.op_model.specs.Tables.Home.{on_getx, no_other, give_home_copy, give_memory, invalidate_for}
+use Rattle.op_model.proofs.Plain.{eqb-self}
 use Rattle.line_invariant.specs.Line.{Line, share_of, after_row, after_take, taken}
 use Rattle.line_invariant.specs.Good.{is_put, Status, AskingX, Granted, Answered, NotLeaving, NoDuty, Told, Clean, HomeOwns, Owned, Called, MayShare, Bare, Holds, Usual, ByGrant, Recalled, IsGoodNode, IsGood, IsGoodHeader, IsGoodHome}
-use Rattle.line_invariant.proofs.Basics.{eq-self, eq-apart, if-either}
+use Rattle.line_invariant.proofs.Basics.{if-either}
 use Rattle.line_invariant.proofs.Fronts.{getx-comes}
 use Rattle.line_invariant.proofs.Meets.{by-row, does-getx}
 use Rattle.line_invariant.proofs.HomeLanes.{lanes-reply, lanes-call-for, all_told_for}
@@ -50,8 +52,8 @@ module _ (home : ℕ) (line : Line) (good : IsGood home line) (p : ℕ) (apart :
       (lanes-reply home p line.lane good.status apart good.lanes false rest (PutX (words_of (line.copy home))) refl empty asking stays)
       (header.0, dirty, refl, refl, apart) refl (grind (arith, nat_tests, listings))
       (home-rests home HomeOwns (Owned p) line.words line.words (line.copy home) _ (line.want home) (good.status home) at_home at_home.carrier refl)
-      (rw (eq-self p) (node-given line.words _ (line.copy p) (line.want p) (good.status p) home (words_of (line.copy home)) _ (rw phase at (good.nodes p apart)) asking stays has))
-      (λ node far other. rw (eq-apart node p other) (bare-any NoDuty line.words _ _ _ (line.copy node) (line.want node) (good.status node) (rw phase at (good.nodes node far))))
+      (rw (eqb-self p) (node-given line.words _ (line.copy p) (line.want p) (good.status p) home (words_of (line.copy home)) _ (rw phase at (good.nodes p apart)) asking stays has))
+      (λ node far other. rw (ne_eqb node p other) (bare-any NoDuty line.words _ _ _ (line.copy node) (line.want node) (good.status node) (rw phase at (good.nodes node far))))
 
   good-give-memory : is_pending line.header ≡ false → line.header.dirty ≡ false → no_other p line.header.list ≡ true →
       IsGood home (after_row home home (give_memory p (share_of line home)) (record line { lane = taken p home Request rest line.lane }))
@@ -65,11 +67,11 @@ module _ (home : ℕ) (line : Line) (good : IsGood home line) (p : ℕ) (apart :
       (lanes-reply home p line.lane good.status apart good.lanes false rest (PutX line.header.memory) refl empty asking stays)
       (header.0, refl, refl, refl, apart) refl (grind (arith, nat_tests, listings))
       (home-rests home Clean (Owned p) line.words line.words (line.copy home) _ (line.want home) (good.status home) at_home at_home.carrier refl)
-      (rw (eq-self p) (node-given-clean line.words _ (line.copy p) (line.want p) (good.status p) home line.header.memory _ (rw phase at (good.nodes p apart)) asking stays header.2))
+      (rw (eqb-self p) (node-given-clean line.words _ (line.copy p) (line.want p) (good.status p) home line.header.memory _ (rw phase at (good.nodes p apart)) asking stays header.2))
       (λ node far other.
       let e : listed (unlist line.header.list p) node ≡ false = ap (λ l. listed l node) left ∙ listed-none node in
       let isnt : listed line.header.list node ≡ false = grind (arith, nat_tests, listings) in
-      rw (eq-apart node p other) (bare-any NoDuty line.words _ _ _ (line.copy node) (line.want node) (good.status node) (node-unlisted line.words line.words _ (line.copy node) (line.want node) (good.status node) (rw phase at (good.nodes node far)) isnt)))
+      rw (ne_eqb node p other) (bare-any NoDuty line.words _ _ _ (line.copy node) (line.want node) (good.status node) (node-unlisted line.words line.words _ (line.copy node) (line.want node) (good.status node) (rw phase at (good.nodes node far)) isnt)))
 
   good-invalidate-for : is_pending line.header ≡ false → line.header.dirty ≡ false → no_other p line.header.list ≡ false →
       IsGood home (after_row home home (invalidate_for p (share_of line home)) (record line { lane = taken p home Request rest line.lane }))
@@ -77,7 +79,7 @@ module _ (home : ℕ) (line : Line) (good : IsGood home line) (p : ℕ) (apart :
       let phase = clean-phase home good.phase line.words line.header (line.copy home) good.header idle clean in
       let header : IsGoodHeader home Clean line.words line.header (line.copy home) = rw phase at good.header in
       let at_home : IsGoodHome home Clean line.words (line.copy home) (line.want home) (good.status home) = rw phase at good.at_home in
-      let off : (home == p) ≡ false = eq-apart home p (λ e. apart (sym e)) in
+      let off : (home == p) ≡ false = ne_eqb home p (λ e. apart (sym e)) in
       let gone : listed (unlist line.header.list p) p ≡ false = grind (arith, nat_tests, listings) in
       let home_off : listed (unlist line.header.list p) home ≡ false = grind (arith, nat_tests, listings, good.unlisted) in
       home-step-all home line (invalidate_for p (share_of line home)) (Called (Node p)) (all_told_for p (unlist line.header.list p) good.status) (taken p home Request rest line.lane)

@@ -1,6 +1,7 @@
 -- A Get at the home keeps the line good: it is refused, answered from memory or the home's copy, or forwarded to the owner.
 -- The header tells the phase, and who asks neither holds the line nor is its owner.
 use Rattle.std.proofs.Common.{◌≡◌, ◌≢◌, ℕ, Bool, true, false, cond, ◌==◌, ◌&&◌, not, List, [], ◌∷◌, refl, arith, ap, ◌∙◌, sym, Option, Some, None}
+use Rattle.std.proofs.lemmas.Bool.{ne_eqb}
 use Rattle.std.proofs.lemmas.Bool.Decides.{nat_tests}
 use Rattle.line_invariant.specs.Types.{Want, ForwardGet, ForwardGetX, NakCause, Pending, NoLink, Budget, Request}
 use Rattle.op_model.specs.Nodes.{listed, enlist, only, listings}
@@ -8,9 +9,10 @@ use Rattle.op_model.specs.Operations.{Words}
 use Rattle.op_model.specs.Messages.{FwdGet, FwdGetX, Content, Get, Put, Nak}
 use Rattle.op_model.specs.Lines.{Copy, Header, Room, Outcome, sending, one_to, is_pending, is_idle, is_empty, words_of, owner}
 use Rattle.op_model.specs.Tables.Home.{on_get, refuse, lacks_link, share_home_copy, share_memory}
+use Rattle.op_model.proofs.Plain.{eqb-self}
 use Rattle.line_invariant.specs.Line.{Line, share_of, after_row, after_take, taken}
 use Rattle.line_invariant.specs.Good.{is_put, Status, Resting, Asking, AskingX, Answered, NotLeaving, NoDuty, Phase, Clean, HomeOwns, Owned, Called, Asked, SharedOut, HandedOn, Bare, Usual, Holds, IsCarried, IsHomeCarrier, asked_list, role_in, IsGoodNode, IsGood, IsGoodHeader, IsGoodHome, Forwarded}
-use Rattle.line_invariant.proofs.Basics.{eq-self, eq-apart, if-either, owner-only}
+use Rattle.line_invariant.proofs.Basics.{if-either, owner-only}
 use Rattle.line_invariant.proofs.Fronts.{get-comes}
 use Rattle.line_invariant.proofs.Meets.{by-row, does-get}
 use Rattle.line_invariant.proofs.HomeLanes.{lanes-reply, forwarded, lanes-forward}
@@ -115,9 +117,9 @@ module _ (home : ℕ) (line : Line) (good : IsGood home line) (p : ℕ) (apart :
       let it : IsGoodNode (cond (p == o) (Holds NoDuty) (Bare Usual NoDuty)) line.words (listed line.header.list p) (line.copy p) (line.want p) (good.status p) = rw phase at (good.nodes p apart) in
       let other : (p == o) ≡ false = asker-isnt line.words _ (line.copy p) (line.want p) (good.status p) (not write) (p == o) it (asking ∙ turned write) stays in
       let owner_is : IsGoodNode (cond (o == o) (Holds NoDuty) (Bare Usual NoDuty)) line.words (listed line.header.list o) (line.copy o) (line.want o) (good.status o) = rw phase at (good.nodes o header.4) in
-      let off_duty : (good.status o).duty ≡ NoDuty = (rw (eq-self o) at owner_is).duty in
+      let off_duty : (good.status o).duty ≡ NoDuty = (rw (eqb-self o) at owner_is).duty in
       let differs : p ≢ o = grind (arith, nat_tests) in
-      let off : (p == home) ≡ false = eq-apart p home apart in
+      let off : (p == home) ≡ false = ne_eqb p home apart in
       let away : (home == p) ≡ false = grind (arith, nat_tests) in
       let far_o : (home == o) ≡ false = let f = header.4 in grind (arith, nat_tests) in
       let out : Outcome = sending (record (share_of line home) { header = record line.header { wait = cond write (ForwardGetX p) (ForwardGet p); list = cond write line.header.list (enlist line.header.list p) } }) (one_to o (cond write (FwdGetX p) (FwdGet p))) in

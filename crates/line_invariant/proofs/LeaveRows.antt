@@ -1,6 +1,7 @@
 -- A write-back or a hint at the home keeps the line good.
 -- Who writes back held the line, so its phase is one of three; a hint unlists a node only where it has no copy and none is under way to it.
 use Rattle.std.proofs.Common.{◌≡◌, ◌≢◌, ℕ, Bool, true, false, cond, ◌==◌, ◌&&◌, not, List, refl, arith, ap, ◌∙◌, subst, Option}
+use Rattle.std.proofs.lemmas.Bool.{ne_eqb}
 use Rattle.std.proofs.lemmas.Bool.Decides.{nat_tests}
 use Rattle.line_invariant.specs.Types.{Want, Nobody, Me, Node, ForwardGet, ForwardGetX, Class, Request, Reply}
 use Rattle.op_model.specs.Nodes.{listed, unlist, none, listings, listed-none}
@@ -10,9 +11,10 @@ use Rattle.op_model.specs.Lines.{Copy, Header, sending, no_message, is_idle, is_
 use Rattle.op_model.specs.Tables.Home.{on_wb, on_rpl}
 use Rattle.op_model.specs.Tables.Remote.{is_invalidate}
 use Rattle.op_model.specs.Events.Step.{put_at}
+use Rattle.op_model.proofs.Plain.{eqb-self}
 use Rattle.line_invariant.specs.Line.{Lanes, Line, share_of, after_row, sent, taken}
 use Rattle.line_invariant.specs.Good.{Status, NotLeaving, WritesBack, Hints, Duty, NoDuty, Phase, Clean, HomeOwns, Owned, Called, Asked, SharedOut, HandedOn, Role, MayShare, Bare, Holds, Usual, asking_part, expected, role_in, holds_in, IsGoodNode, IsGood, IsGoodHeader, IsGoodHome}
-use Rattle.line_invariant.proofs.Basics.{eq-self, eq-apart, if-either}
+use Rattle.line_invariant.proofs.Basics.{if-either}
 use Rattle.line_invariant.proofs.ForwardNodes.{node-bare-shares}
 use Rattle.line_invariant.proofs.HomeRows.{home-rests, clean-phase}
 use Rattle.line_invariant.proofs.Marks.{keep}
@@ -70,8 +72,8 @@ module _ (home : ℕ) (line : Line) (good : IsGood home line) (p : ℕ) (apart :
       (header.0, refl, same, rw header.3 tt, rw header.3 tt)
       good.local (ap (λ l. listed l home) list ∙ listed-none home)
       (home-rests home (Owned p) Clean line.words line.words (line.copy home) _ (line.want home) (good.status home) at_home at_home.carrier refl)
-      (node-bare-shares line.words (listed line.header.list p) (line.copy p) (line.want p) _ NoDuty _ (node-departed line.words _ (line.copy p) (line.want p) (good.status p) NoDuty has _ (rw (eq-self p) at (rw e at (good.nodes p apart))) leaves))
-      (λ node far other. node-bare-shares line.words _ (line.copy node) (line.want node) (good.status node) NoDuty _ (rw (eq-apart node p other) at (rw e at (good.nodes node far))))
+      (node-bare-shares line.words (listed line.header.list p) (line.copy p) (line.want p) _ NoDuty _ (node-departed line.words _ (line.copy p) (line.want p) (good.status p) NoDuty has _ (rw (eqb-self p) at (rw e at (good.nodes p apart))) leaves))
+      (λ node far other. node-bare-shares line.words _ (line.copy node) (line.want node) (good.status node) NoDuty _ (rw (ne_eqb node p other) at (rw e at (good.nodes node far))))
   good-wb-in phase e (in_asked w r f) has same leaves =
       let header : IsGoodHeader home (Asked w r p f true) line.words line.header (line.copy home) = rw e at good.header in
       let list : cond (is_idle line.header.wait) none line.header.list ≡ line.header.list = ap (λ v. cond (is_idle v) none line.header.list) header.0 ∙ either w in
@@ -81,8 +83,8 @@ module _ (home : ℕ) (line : Line) (good : IsGood home line) (p : ℕ) (apart :
       (header.0, refl, same, list ∙ header.3, header.4, header.5, header.6)
       good.local (ap (λ l. listed l home) list ∙ good.unlisted)
       (let h : IsGoodHome home (Asked w r p f true) line.words (line.copy home) (line.want home) (good.status home) = rw e at good.at_home in record { carried = h.carried; stays = h.stays; off_duty = h.off_duty; carrier = h.carrier })
-      (rw (eq-self p) (node-departed line.words _ (line.copy p) (line.want p) (good.status p) _ has _ (rw (eq-self p) at (rw e at (good.nodes p apart))) leaves))
-      (λ node far other. rw (eq-apart node p other, list) (rw (eq-apart node p other) at (rw e at (good.nodes node far))))
+      (rw (eqb-self p) (node-departed line.words _ (line.copy p) (line.want p) (good.status p) _ has _ (rw (eqb-self p) at (rw e at (good.nodes p apart))) leaves))
+      (λ node far other. rw (ne_eqb node p other, list) (rw (ne_eqb node p other) at (rw e at (good.nodes node far))))
     where
       either : (c : Bool) → cond (is_idle (cond c (ForwardGetX r) (ForwardGet r))) none line.header.list ≡ line.header.list
       either true = refl
@@ -90,15 +92,15 @@ module _ (home : ℕ) (line : Line) (good : IsGood home line) (p : ℕ) (apart :
   good-wb-in phase e (in_handed o) has same leaves =
       let header : IsGoodHeader home (HandedOn p o true) line.words line.header (line.copy home) = rw e at good.header in
       let list : cond (is_idle line.header.wait) none line.header.list ≡ line.header.list = ap (λ v. cond (is_idle v) none line.header.list) header.0 in
-      let off : (p == o) ≡ false = eq-apart p o header.6 in
+      let off : (p == o) ≡ false = ne_eqb p o header.6 in
       home-step home p line good apart (on_wb has (share_of line home)) (HandedOn p o false) (record (good.status p) { leaving = NotLeaving }) (taken p home Request rest line.lane)
       (keep line.answered good.status good.answered p _ refl)
       (lanes-departed home p line.lane good.status apart good.lanes rest left)
       (header.0, refl, same, list ∙ header.3, header.4, header.5, header.6, λ h. absurd (apart h))
       good.local (ap (λ l. listed l home) list ∙ good.unlisted)
       (let h : IsGoodHome home (HandedOn p o true) line.words (line.copy home) (line.want home) (good.status home) = rw e at good.at_home in record { carried = h.carried; stays = h.stays; off_duty = h.off_duty; carrier = h.carrier })
-      (rw off (node-departed line.words _ (line.copy p) (line.want p) (good.status p) _ has _ (rw (off, eq-self p) at (rw e at (good.nodes p apart))) leaves))
-      (λ node far other. rw list (rw (eq-apart node p other) at (rw e at (good.nodes node far))))
+      (rw off (node-departed line.words _ (line.copy p) (line.want p) (good.status p) _ has _ (rw (off, eqb-self p) at (rw e at (good.nodes p apart))) leaves))
+      (λ node far other. rw list (rw (ne_eqb node p other) at (rw e at (good.nodes node far))))
 
   pub good-wb : (has : Words) → (good.status p).leaving ≡ WritesBack has →
       IsGood home (after_row home home (on_wb has (share_of line home)) (record line { lane = taken p home Request rest line.lane }))

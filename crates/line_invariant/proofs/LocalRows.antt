@@ -1,6 +1,7 @@
 -- Each row of a processor keeps the line good: hits, requests, the home's own rows, evictions and calls.
 -- A hit's copy and the home's header tell the phase.
 use Rattle.std.proofs.Common.{◌≡◌, ◌≢◌, ℕ, Bool, true, false, cond, ◌==◌, ◌||◌, not, refl, arith, ap, sym, ◌∙◌, None}
+use Rattle.std.proofs.lemmas.Bool.{ne_eqb}
 use Rattle.std.proofs.lemmas.Bool.Decides.{nat_tests}
 use Rattle.line_invariant.specs.Types.{Op, Nobody, Me, ForwardGet, ForwardGetX, EvictKind}
 use Rattle.op_model.specs.declared.events.EvictKind.TheVariants as way
@@ -9,9 +10,10 @@ use Rattle.op_model.specs.Operations.{Words, is_load, after_op}
 use Rattle.op_model.specs.Messages.{Get, GetX, Wb, Rpl, FwdGet, FwdGetX}
 use Rattle.op_model.specs.Lines.{Copy, Absent, Shared, Exclusive, sending, no_message, one_to, is_empty, is_pending, nobody_listed, without_shared, words_of, is_idle, owner, begun}
 use Rattle.op_model.specs.Tables.Processor.{serves, ask, load_at_home, write_at_home, invalidate_for_home, fits, leave_remote, leave_home, hit, done_on, call_in}
+use Rattle.op_model.proofs.Plain.{eqb-self}
 use Rattle.line_invariant.specs.Line.{Line, share_of, after_row}
 use Rattle.line_invariant.specs.Good.{is_put, Forwarded, Granted, Resting, Asking, AskingX, NotLeaving, WritesBack, Hints, NoDuty, Clean, HomeOwns, Owned, Called, Asked, Holds, Bare, Usual, ToGive, role_in, IsGoodNode, IsGood, IsGoodHeader, IsGoodHome}
-use Rattle.line_invariant.proofs.Basics.{eq-self, eq-apart, if-either, owner-only}
+use Rattle.line_invariant.proofs.Basics.{if-either, owner-only}
 use Rattle.line_invariant.proofs.RemoteLanes.{lanes-ask, lanes-leave}
 use Rattle.line_invariant.proofs.HomeLanes.{lanes-quiet, lanes-call, lanes-call-home, lanes-same, all_told, all_told_home, forwarded_home, lanes-forward-home}
 use Rattle.line_invariant.proofs.HomeNodes.{node-may-share, node-called}
@@ -51,11 +53,11 @@ module _ (home : ℕ) (line : Line) (good : IsGood home line) where
       go : (kind : EvictKind) → IsGoodNode (role_in home line.words good.phase p) line.words (listed line.header.list p) Absent (line.want p) (record (good.status p) { leaving = leaving_by kind (line.copy p) }) → IsGood home (after_row home p (leave_remote home kind (share_of line p)) line)
       go way.Wb it = remote-step home p line good apart (leave_remote home way.Wb (share_of line p)) good.phase (record (good.status p) { leaving = WritesBack (words_of (line.copy p)) }) line.lane
           (keep line.answered good.status good.answered p _ refl)
-          (lanes-leave home p line.lane good.status apart good.lanes (WritesBack (words_of (line.copy p))) left-rests.0 left-rests.1 (one_to home (Wb (words_of (line.copy p)))) (rw (eq-self home)) (λ b. grind (arith, nat_tests)) (λ b far. grind (arith, nat_tests)))
+          (lanes-leave home p line.lane good.status apart good.lanes (WritesBack (words_of (line.copy p))) left-rests.0 left-rests.1 (one_to home (Wb (words_of (line.copy p)))) (rw (eqb-self home)) (λ b. grind (arith, nat_tests)) (λ b far. grind (arith, nat_tests)))
           good.header good.at_home it (λ node far other. good.nodes node far)
       go way.Hint it = remote-step home p line good apart (leave_remote home way.Hint (share_of line p)) good.phase (record (good.status p) { leaving = Hints }) line.lane
           (keep line.answered good.status good.answered p _ refl)
-          (lanes-leave home p line.lane good.status apart good.lanes Hints left-rests.0 left-rests.1 (one_to home Rpl) (rw (eq-self home)) (λ b. grind (arith, nat_tests)) (λ b far. grind (arith, nat_tests)))
+          (lanes-leave home p line.lane good.status apart good.lanes Hints left-rests.0 left-rests.1 (one_to home Rpl) (rw (eqb-self home)) (λ b. grind (arith, nat_tests)) (λ b far. grind (arith, nat_tests)))
           good.header good.at_home it (λ node far other. good.nodes node far)
       go way.Silent it = remote-step home p line good apart (leave_remote home way.Silent (share_of line p)) good.phase (record (good.status p) { leaving = NotLeaving }) line.lane
           (keep line.answered good.status good.answered p _ refl)
@@ -106,8 +108,8 @@ module _ (home : ℕ) (line : Line) (good : IsGood home line) where
       (lanes-call-home home line.lane good.status good.lanes line.header.list good.unlisted (λ node far. (rw phase at (good.nodes node far)).duty) at_home.off_duty at_home.carrier)
       (refl, header.1, header.2, grind (arith, nat_tests), refl, tt, tt, tt)
       refl good.unlisted
-      (simp (eq-self home, good.unlisted) (record { carried = (refl, write); stays = at_home.stays; off_duty = at_home.off_duty; carrier = refl }))
-      (λ node far. let off : (node == home) ≡ false = eq-apart node home far in
+      (simp (eqb-self home, good.unlisted) (record { carried = (refl, write); stays = at_home.stays; off_duty = at_home.off_duty; carrier = refl }))
+      (λ node far. let off : (node == home) ≡ false = ne_eqb node home far in
       simp off (node-called line.words (listed line.header.list node) (line.copy node) (line.want node) (good.status node) (rw phase at (good.nodes node far))))
 
   -- a load on a copy changes nothing
@@ -216,15 +218,15 @@ module _ (home : ℕ) (line : Line) (good : IsGood home line) where
           let header : IsGoodHeader home (Owned o) line.words line.header (line.copy home) = rw phase at good.header in
           let at_home : IsGoodHome home (Owned o) line.words (line.copy home) (line.want home) (good.status home) = rw phase at good.at_home in
           let owns : owner line.header ≡ o = owner-only line.header o header.2 in
-          let it : IsGoodNode (Holds NoDuty) line.words (listed line.header.list o) (line.copy o) (line.want o) (good.status o) = rw (eq-self o) at (rw phase at (good.nodes o header.4)) in
+          let it : IsGoodNode (Holds NoDuty) line.words (listed line.header.list o) (line.copy o) (line.want o) (good.status o) = rw (eqb-self o) at (rw phase at (good.nodes o header.4)) in
           let off : (home == o) ≡ false = let f = header.4 in grind (arith, nat_tests) in
           rw owns (home-step-all home line (sending (record (share_of line home) { want = begun op; header = record line.header { wait = cond write (ForwardGetX home) (ForwardGet home) } }) (one_to o (cond write (FwdGetX home) (FwdGet home)))) (Asked write home o false true) (forwarded_home home o write good.status) line.lane
           (at-one line.answered good.status good.answered home (Forwarded write) (sym (ap is_put at_home.carrier)))
           (lanes-forward-home home o line.lane good.status header.4 good.lanes write at_home.carrier it.duty)
-          (refl, header.1, tt, rw (eq-self home) (list write header.2), header.3, header.4, λ e. header.4 (sym e))
+          (refl, header.1, tt, rw (eqb-self home) (list write header.2), header.3, header.4, λ e. header.4 (sym e))
           good.local good.unlisted
-          (rw (eq-self home, off) (record { carried = (header.3, kind); stays = at_home.stays; off_duty = at_home.off_duty; carrier = rw (eq-self home) refl }))
-          (λ node far. rw (eq-apart node home far) (go node (node == o) (rw phase at (good.nodes node far)))))
+          (rw (eqb-self home, off) (record { carried = (header.3, kind); stays = at_home.stays; off_duty = at_home.off_duty; carrier = rw (eqb-self home) refl }))
+          (λ node far. rw (ne_eqb node home far) (go node (node == o) (rw phase at (good.nodes node far)))))
         where
           list : (c : Bool) → line.header.list ≡ only o → line.header.list ≡ cond (c || true) (only o) (enlist (only o) home)
           list true e = e

@@ -1,12 +1,14 @@
 -- Whatever a processor does keeps the line good, and serves its own operation alone, on the line's words.
 -- Each table is split by its own tests, in its order.
-use Rattle.std.proofs.Common.{◌≡◌, ◌≢◌, ℕ, Bool, true, false, cond, ◌==◌, ◌&&◌, not, refl, arith, ap, sym, ◌∙◌, subst, Result, Ok, Err, Option, None}
+use Rattle.std.proofs.Common.{◌≡◌, ◌≢◌, ℕ, Bool, true, false, cond, ◌==◌, ◌&&◌, not, refl, arith, ap, sym, ◌∙◌, subst, Result, Ok, Option, None}
+use Rattle.std.proofs.lemmas.Bool.{not-false}
 use Rattle.std.proofs.lemmas.Bool.Decides.{nat_tests}
 use Rattle.line_invariant.specs.Types.{Op, Want, Cause, EvictKind}
 use Rattle.op_model.specs.Nodes.{listings}
 use Rattle.op_model.specs.Operations.{Words, is_load}
 use Rattle.op_model.specs.Lines.{Copy, Absent, Shared, Exclusive, Header, Room, Outcome, is_pending, is_empty, nobody_listed, words_of}
 use Rattle.op_model.specs.Tables.Processor.{serves, hit, ask, begin_op, begin_at_home, load_at_home, write_at_home, invalidate_for_home, forward_get_home, forward_getx_home, fits, evict, leave_home, leave_remote, reclaim, call_in, holds_link}
+use Rattle.op_model.proofs.Plain.{err-ok}
 use Rattle.line_invariant.specs.Line.{Line, share_of, after_row}
 use Rattle.line_invariant.specs.Good.{Phase, Clean, HomeOwns, Owned, Called, Asked, SharedOut, HandedOn, IsGood, IsGoodHeader, IsGoodNode, Role, Status}
 use Rattle.line_invariant.specs.Rows.{IsOwnServed, IsOwnWant, IsDoneRight}
@@ -65,13 +67,10 @@ module _ (home : ℕ) (line : Line) (good : IsGood home line) where
 
   pub good-evict : (p : ℕ) (kind : EvictKind) (o : Outcome) → evict p home kind (share_of line p) ≡ Ok o → IsGood home (after_row home p o line)
   unfolding evict
-  good-evict p kind o = if-either Gives (fits (p == home) kind (line.copy p)) _ _ (λ fit e. let is : cond (p == home) (leave_home (line.copy p) (share_of line p)) (leave_remote home kind (share_of line p)) ≡ o = cc in subst (λ x. IsGood home (after_row home p x line)) is (go (p == home) refl fit)) (λ _ e. absurd (no-error _ e))
+  good-evict p kind o = if-either Gives (fits (p == home) kind (line.copy p)) _ _ (λ fit e. let is : cond (p == home) (leave_home (line.copy p) (share_of line p)) (leave_remote home kind (share_of line p)) ≡ o = cc in subst (λ x. IsGood home (after_row home p x line)) is (go (p == home) refl fit)) (λ _ e. absurd (err-ok _ o e))
     where
       Gives : Result Outcome Cause → Type 0
       Gives r = r ≡ Ok o → IsGood home (after_row home p o line)
-
-      no-error : (c : Cause) → ◌≡◌ {A = Result Outcome Cause} (Err c) (Ok o) → ⊥
-      no-error c e = cc
 
       go : (c : Bool) → (p == home) ≡ c → fits c kind (line.copy p) ≡ true → IsGood home (after_row home p (cond c (leave_home (line.copy p) (share_of line p)) (leave_remote home kind (share_of line p))) line)
       go true e fit = let same : home ≡ p = grind (arith, nat_tests) in
@@ -87,20 +86,14 @@ module _ (home : ℕ) (line : Line) (good : IsGood home line) where
   pub good-reclaim : (room : Room) (o : Outcome) → reclaim room (share_of line home) ≡ Ok o → IsGood home (after_row home home o line)
   unfolding reclaim
   good-reclaim room o =
-      if-either Gives (not (holds_link room line.header)) _ _ (λ _ e. absurd (no-error _ e)) (λ linked.
-      (if-either Gives (is_pending line.header) _ _ (λ _ e. absurd (no-error _ e)) (λ idle.
-      (if-either Gives room.full _ _ (λ _ e. absurd (no-error _ e)) (λ _ e.
+      if-either Gives (not (holds_link room line.header)) _ _ (λ _ e. absurd (err-ok _ o e)) (λ linked.
+      (if-either Gives (is_pending line.header) _ _ (λ _ e. absurd (err-ok _ o e)) (λ idle.
+      (if-either Gives room.full _ _ (λ _ e. absurd (err-ok _ o e)) (λ _ e.
       let is : call_in (share_of line home) ≡ o = cc in
-      subst (λ x. IsGood home (after_row home home x line)) is (good-call room idle (turned (holds_link room line.header) linked)))))))
+      subst (λ x. IsGood home (after_row home home x line)) is (good-call room idle (not-false (holds_link room line.header) linked)))))))
     where
       Gives : Result Outcome Cause → Type 0
       Gives r = r ≡ Ok o → IsGood home (after_row home home o line)
-
-      no-error : (c : Cause) → ◌≡◌ {A = Result Outcome Cause} (Err c) (Ok o) → ⊥
-      no-error c e = cc
-
-      turned : (b : Bool) → not b ≡ false → b ≡ true
-      turned b e = grind arith
 
 -- a dirty line that the home's copy doesn't serve is owned elsewhere
 owner-away : (home : ℕ) (phase : Phase) (words : Words) (header : Header) (copy : Copy) (op : Op) → IsGoodHeader home phase words header copy → is_pending header ≡ false → header.dirty ≡ true → serves op copy ≡ false → header.local ≡ not (is_empty copy) → header.local ≡ false
@@ -124,10 +117,10 @@ module _ (home : ℕ) (line : Line) (good : IsGood home line) (p : ℕ) (op : Op
   at-home : (room : Room) (o : Outcome) → p ≡ home → serves op (line.copy p) ≡ false → begin_at_home home room op (share_of line p) ≡ Ok o → Fine o
   unfolding begin_at_home
   at-home room o same miss =
-      if-either Gives (is_pending header) _ _ (λ _ e. absurd (no-error _ e)) (λ idle.
+      if-either Gives (is_pending header) _ _ (λ _ e. absurd (err-ok _ o e)) (λ idle.
       (if-either Gives (not header.dirty && is_load op.kind) _ _ (λ c e. ok _ e (at (λ k. load_at_home op (share_of line k)) (good-load-home home line good op free' miss' idle (grind arith) (grind arith)), (memory idle (grind arith), refl), want-none, (free, refl))) (λ not_load.
       (if-either Gives (not header.dirty && nobody_listed header.list) _ _ (λ c e. ok _ e (at (λ k. write_at_home op (share_of line k)) (good-write-home home line good op free' idle (grind arith) (grind arith)), (memory idle (grind arith), refl), want-none, (free, refl))) (λ not_alone.
-      (if-either Gives room.full _ _ (λ _ e. absurd (no-error _ e)) (λ _.
+      (if-either Gives room.full _ _ (λ _ e. absurd (err-ok _ o e)) (λ _.
       (if-either Gives (not header.dirty) _ _ (λ clean e. ok _ e (at (λ k. invalidate_for_home op (share_of line k)) (good-call-home home line good op free' idle (grind arith) (grind arith) (grind arith)), tt, refl, tt)) (λ dirty.
       (if-either Gives (is_load op.kind) _ _ (λ load e. ok _ e (at (λ k. forward_get_home home op (share_of line k)) (good-forward-home home line good false op free' load (grind arith) (grind arith) (away idle (grind arith))), tt, refl, tt)) (λ write e. ok _ e (at (λ k. forward_getx_home home op (share_of line k)) (good-forward-home home line good true op free' write (grind arith) (grind arith) (away idle (grind arith))), tt, refl, tt))))))))))))
     where
@@ -136,9 +129,6 @@ module _ (home : ℕ) (line : Line) (good : IsGood home line) (p : ℕ) (op : Op
 
       Gives : Result Outcome Cause → Type 0
       Gives r = r ≡ Ok o → Fine o
-
-      no-error : (c : Cause) → ◌≡◌ {A = Result Outcome Cause} (Err c) (Ok o) → ⊥
-      no-error c e = cc
 
       ok : (x : Outcome) → ◌≡◌ {A = Result Outcome Cause} (Ok x) (Ok o) → Fine x → Fine o
       ok x e f = let is : x ≡ o = cc in subst Fine is f
@@ -166,13 +156,10 @@ module _ (home : ℕ) (line : Line) (good : IsGood home line) (p : ℕ) (op : Op
   pub good-begin : (room : Room) (o : Outcome) → begin_op p home room op (share_of line p) ≡ Ok o → Fine o
   unfolding begin_op
   good-begin room o =
-      if-either Gives (serves op (line.copy p)) _ _ (λ _ e. absurd (no-error _ e)) (λ miss.
+      if-either Gives (serves op (line.copy p)) _ _ (λ _ e. absurd (err-ok _ o e)) (λ miss.
       (if-either Gives (p == home) _ _
       (λ e. at-home room o (grind (arith, nat_tests)) miss)
       (λ e is. let same : ask home op (share_of line p) ≡ o = cc in subst Fine same (ask-fine (grind (arith, nat_tests)) miss))))
     where
       Gives : Result Outcome Cause → Type 0
       Gives r = r ≡ Ok o → Fine o
-
-      no-error : (c : Cause) → ◌≡◌ {A = Result Outcome Cause} (Err c) (Ok o) → ⊥
-      no-error c e = cc

@@ -1,6 +1,7 @@
 -- The message at the front of a lane meets a row.
 -- What is under way tells the phase, and the phase the facts that the row asks for.
 use Rattle.std.proofs.Common.{◌≡◌, ◌≢◌, ℕ, Bool, true, false, cond, ◌==◌, ◌&&◌, not, List, [], ◌∷◌, ◌++◌, refl, arith, ap, sym, ◌∙◌, subst}
+use Rattle.std.proofs.lemmas.Bool.{ne_eqb}
 use Rattle.std.proofs.lemmas.Bool.Decides.{nat_tests}
 use Rattle.line_invariant.specs.Types.{Op, Grantee, Invalidate, ForwardGet, ForwardGetX, NakCause, Class, Request, Reply}
 use Rattle.op_model.specs.Nodes.{listed}
@@ -8,10 +9,10 @@ use Rattle.op_model.specs.Operations.{Words, is_load}
 use Rattle.op_model.specs.Messages.{Content, Get, GetX, FwdGet, FwdGetX, Inv, Wb, Rpl, Put, PutX, Nak, InvAck, ShWb, FAck, Nakc}
 use Rattle.op_model.specs.Lines.{Absent, LineShare, is_empty, is_idle}
 use Rattle.op_model.specs.Tables.Remote.{meets, asks_well, is_invalidate}
+use Rattle.op_model.proofs.Plain.{eqb-self}
 use Rattle.line_invariant.specs.Line.{Line, share_of}
 use Rattle.line_invariant.specs.Good.{Carrier, Answered, Leaving, Duty, Called, Asked, SharedOut, HandedOn, told_part, reply_part, leaving_part, asking_part, IsGood, IsGoodHeader, IsAnswerTo}
 use Rattle.line_invariant.specs.Rows.{wanting}
-use Rattle.line_invariant.proofs.Basics.{eq-self, eq-apart}
 use Rattle.line_invariant.proofs.Fronts.{get-comes, getx-comes, wb-comes, ack-first, answer-comes, requests-only, told-only, replies-only, shwb-first, fack-first, nakc-first, put-first, putx-first, nak-first, request-home, request-apart, reply-home, request-away}
 use Rattle.line_invariant.proofs.RemoteRows.{answered}
 use Rattle.line_invariant.proofs.HomeRows.{not-owner}
@@ -27,27 +28,27 @@ Meets me home from content share = meets me home from (is_empty share.copy) cont
 module _ (p home : ℕ) (apart : p ≢ home) (from : ℕ) (share : LineShare) where
   meets-inv : Meets p home from Inv share
   unfolding meets
-  meets-inv = simp (eq-apart p home apart)
+  meets-inv = simp (ne_eqb p home apart)
 
   meets-fwd : (r : ℕ) → Meets p home from (FwdGet r) share
   unfolding meets
-  meets-fwd r = simp (eq-apart p home apart)
+  meets-fwd r = simp (ne_eqb p home apart)
 
   meets-fwdx : (r : ℕ) → Meets p home from (FwdGetX r) share
   unfolding meets
-  meets-fwdx r = simp (eq-apart p home apart)
+  meets-fwdx r = simp (ne_eqb p home apart)
 
   meets-nak : (cause : NakCause) (op : Op) (marked : Bool) → share.want ≡ wanting op marked → Meets p home from (Nak cause) share
   unfolding meets
-  meets-nak cause op marked wants = simp (eq-apart p home apart, wants)
+  meets-nak cause op marked wants = simp (ne_eqb p home apart, wants)
 
   meets-put : (words : Words) (op : Op) (marked : Bool) → share.want ≡ wanting op marked → is_load op.kind ≡ true → share.copy ≡ Absent → Meets p home from (Put words) share
   unfolding meets
-  meets-put words op marked wants load empty = simp (eq-apart p home apart, wants, load, empty)
+  meets-put words op marked wants load empty = simp (ne_eqb p home apart, wants, load, empty)
 
   meets-putx : (words : Words) (op : Op) (marked : Bool) → share.want ≡ wanting op marked → is_load op.kind ≡ false → share.copy ≡ Absent → Meets p home from (PutX words) share
   unfolding meets
-  meets-putx words op marked wants write empty = simp (eq-apart p home apart, wants, write, empty)
+  meets-putx words op marked wants write empty = simp (ne_eqb p home apart, wants, write, empty)
 
 module _ (home from : ℕ) (share : LineShare) where
   asks-well : (idle dirty local lists : Bool) → (idle ≡ true → dirty ≡ true → local ≡ false → lists ≡ false) → not (idle && dirty && not local && lists) ≡ true
@@ -57,51 +58,51 @@ module _ (home from : ℕ) (share : LineShare) where
   unfolding meets
   meets-get apart strange =
       let well : asks_well from share.header ≡ true = asks-well (is_idle share.header.wait) share.header.dirty share.header.local (listed share.header.list from) strange in
-      simp (eq-self home, eq-apart from home apart, well)
+      simp (eqb-self home, ne_eqb from home apart, well)
 
   meets-getx : from ≢ home → (is_idle share.header.wait ≡ true → share.header.dirty ≡ true → share.header.local ≡ false → listed share.header.list from ≡ false) → Meets home home from GetX share
   unfolding meets
   meets-getx apart strange =
       let well : asks_well from share.header ≡ true = asks-well (is_idle share.header.wait) share.header.dirty share.header.local (listed share.header.list from) strange in
-      simp (eq-self home, eq-apart from home apart, well)
+      simp (eqb-self home, ne_eqb from home apart, well)
 
   meets-ack : (grantee : Grantee) → share.header.wait ≡ Invalidate grantee → listed share.header.list from ≡ true → Meets home home from InvAck share
   unfolding meets
-  meets-ack grantee waits has = simp (eq-self home, waits, has)
+  meets-ack grantee waits has = simp (eqb-self home, waits, has)
 
   meets-wb : (words : Words) → share.header.dirty ≡ true → share.header.local ≡ false → is_invalidate share.header.wait ≡ false → Meets home home from (Wb words) share
   unfolding meets
-  meets-wb words dirty away calm = simp (eq-self home, dirty, away, calm)
+  meets-wb words dirty away calm = simp (eqb-self home, dirty, away, calm)
 
   meets-rpl : Meets home home from Rpl share
   unfolding meets
-  meets-rpl = simp (eq-self home)
+  meets-rpl = simp (eqb-self home)
 
   meets-shwb : (words : Words) (r : ℕ) → share.header.wait ≡ ForwardGet r → r ≢ home → Meets home home from (ShWb words) share
   unfolding meets
-  meets-shwb words r waits far = simp (eq-self home, waits, eq-apart r home far)
+  meets-shwb words r waits far = simp (eqb-self home, waits, ne_eqb r home far)
 
   meets-fack : (r : ℕ) → share.header.wait ≡ ForwardGetX r → r ≢ home → Meets home home from FAck share
   unfolding meets
-  meets-fack r waits far = simp (eq-self home, waits, eq-apart r home far)
+  meets-fack r waits far = simp (eqb-self home, waits, ne_eqb r home far)
 
   meets-nakc : (w : Bool) (r : ℕ) → share.header.wait ≡ cond w (ForwardGetX r) (ForwardGet r) → Meets home home from Nakc share
   unfolding meets
-  meets-nakc true r waits = simp (eq-self home, waits)
-  meets-nakc false r waits = simp (eq-self home, waits)
+  meets-nakc true r waits = simp (eqb-self home, waits)
+  meets-nakc false r waits = simp (eqb-self home, waits)
 
   meets-home-put : (words : Words) (op : Op) (marked : Bool) → share.want ≡ wanting op marked → is_load op.kind ≡ true → share.copy ≡ Absent → share.header.wait ≡ ForwardGet home → Meets home home from (Put words) share
   unfolding meets
-  meets-home-put words op marked wants load empty waits = simp (eq-self home, wants, load, empty, waits)
+  meets-home-put words op marked wants load empty waits = simp (eqb-self home, wants, load, empty, waits)
 
   meets-home-putx : (words : Words) (op : Op) (marked : Bool) → share.want ≡ wanting op marked → is_load op.kind ≡ false → share.copy ≡ Absent → share.header.wait ≡ ForwardGetX home → Meets home home from (PutX words) share
   unfolding meets
-  meets-home-putx words op marked wants write empty waits = simp (eq-self home, wants, write, empty, waits)
+  meets-home-putx words op marked wants write empty waits = simp (eqb-self home, wants, write, empty, waits)
 
   meets-home-nak : (cause : NakCause) (w : Bool) (op : Op) (marked : Bool) → share.want ≡ wanting op marked → share.header.wait ≡ cond w (ForwardGetX home) (ForwardGet home) → Meets home home from (Nak cause) share
   unfolding meets
-  meets-home-nak cause true op marked wants waits = simp (eq-self home, wants, waits)
-  meets-home-nak cause false op marked wants waits = simp (eq-self home, wants, waits)
+  meets-home-nak cause true op marked wants waits = simp (eqb-self home, wants, waits)
+  meets-home-nak cause false op marked wants waits = simp (eqb-self home, wants, waits)
 
 module _ (home : ℕ) (line : Line) (good : IsGood home line) (from : ℕ) (rest : List Content) where
   module _ (p : ℕ) (apart : p ≢ home) where

@@ -1,6 +1,7 @@
 -- The operation that a message serves is served on the line's words, and a load is served once.
 -- Who holds the line, or memory where nobody does, has the line's words; a Put is under way for exactly the loads that are served and not done.
 use Rattle.std.proofs.Common.{◌≡◌, ◌≢◌, ℕ, Bool, true, false, nat_le, ◌==◌, ◌&&◌, not, List, [], ◌∷◌, refl, arith, ap, sym, ◌∙◌, subst, Option, Some, None}
+use Rattle.std.proofs.lemmas.Bool.{not-true}
 use Rattle.std.proofs.lemmas.Bool.Decides.{nat_tests}
 use Rattle.line_invariant.specs.Types.{Op, Want, Grantee, Nobody, Me, Node, Class, Request, Reply}
 use Rattle.op_model.specs.Nodes.{listed, unlist}
@@ -9,10 +10,11 @@ use Rattle.op_model.specs.Messages.{Content, Get, GetX, FwdGet, FwdGetX, Inv, Wb
 use Rattle.op_model.specs.Lines.{Copy, Absent, Exclusive, Header, Room, LineShare, Outcome, NoService, is_exclusive, is_empty, is_idle, is_pending, words_of}
 use Rattle.op_model.specs.Tables.Home.{on_get, on_getx, on_inv_ack, on_shwb, on_fack, on_nakc, on_wb, on_rpl, grant, grantee_of, lacks_link, no_other}
 use Rattle.op_model.specs.Tables.Remote.{on_message, row_of, meets, on_inv, on_nak, on_put, on_putx, on_fwd_get, on_fwd_getx, is_invalidate, waits_write}
+use Rattle.op_model.proofs.Plain.{eqb-self}
 use Rattle.line_invariant.specs.Line.{Line, row_taken, share_of}
 use Rattle.line_invariant.specs.Good.{Status, Asking, Forwarded, Answered, Phase, Clean, HomeOwns, IsGood, IsGoodHeader, IsCarried, is_put, Granted, Carrier, Resting, IsGoodHome, Role, IsGoodNode, asked_role, ToGive, Owned, Called, Asked, SharedOut, HandedOn}
 use Rattle.line_invariant.specs.Rows.{EndsRight, IsPut, wanting, IsLoadWanted, IsServedFor}
-use Rattle.line_invariant.proofs.Basics.{if-either, eq-self}
+use Rattle.line_invariant.proofs.Basics.{if-either}
 use Rattle.line_invariant.proofs.Fronts.{get-comes, answer-comes, fwd-first, put-first, putx-first, requests-only, replies-only, told-only, request-home, request-away, reply-home}
 use Rattle.line_invariant.proofs.RemoteRows.{answered}
 use Rattle.line_invariant.proofs.HomeRows.{home-phase, clean-phase}
@@ -173,7 +175,7 @@ module _ (home : ℕ) (line : Line) (good : IsGood home line) (from : ℕ) (rest
       go : (holds : Bool) → good.phase ≡ Asked false r p false holds → (good.status p).duty ≡ ToGive false r → rest ≡ [] → is_exclusive (line.copy p) ≡ true → (words_of (line.copy p) ≡ line.words) × IsLoadWanted (line.want r) × (line.answered r ≡ false) × (r ≢ p)
       go holds phase duty empty held =
           let words = exclusive-words (line.copy p) held in
-          let it : IsGoodNode (asked_role holds (ToGive false r)) line.words (listed line.header.list p) (line.copy p) (line.want p) (good.status p) = rw (eq-self p) at (rw phase at (good.nodes p apart)) in
+          let it : IsGoodNode (asked_role holds (ToGive false r)) line.words (listed line.header.list p) (line.copy p) (line.want p) (good.status p) = rw (eqb-self p) at (rw phase at (good.nodes p apart)) in
           let waits = waits_is home line good p apart rest empty false r holds phase duty in
           (ap words_of words.1 ∙ fresh-copy line.words _ (line.copy p) (line.want p) (good.status p) _ words.0 it words.1, forwarded-loads (line.want r) (line.copy r) (carried-at (r == home) refl waits), good.answered r ∙ ap is_put waits, (let h : IsGoodHeader home (Asked false r p false holds) line.words line.header (line.copy home) = rw phase at good.header in h.6))
         where
@@ -184,10 +186,7 @@ module _ (home : ℕ) (line : Line) (good : IsGood home line) (from : ℕ) (rest
   served-putx : (to : ℕ) (words : Words) (c : Bool) → words ≡ line.words → (want : Option Want) → line.want to ≡ want → waits_write want ≡ true → At to (on_putx c words (record (share_of line to) { want = want }))
   unfolding on_putx
   served-putx to words c same None e w = tt
-  served-putx to words c same (Some want) e w = (same, (want.marked, e), turned (is_load want.op.kind) w)
-    where
-      turned : (b : Bool) → not b ≡ true → b ≡ false
-      turned b e = grind arith
+  served-putx to words c same (Some want) e w = (same, (want.marked, e), not-true (is_load want.op.kind) w)
 
   putx-words : (to : ℕ) (class : Class) (words : Words) → line.lane from to class ≡ PutX words ∷ rest → words ≡ line.words
   putx-words to class words front = go (to == home) refl class front

@@ -1,15 +1,16 @@
 -- What has to be shown of a row so that it keeps a line good: its lanes, the header, the home, the one node that it changes, and each other node in its role.
 -- A function that is changed at one place is read by one case split, which is done here once, so that the rows speak of plain variables.
 use Rattle.std.proofs.Common.{◌≡◌, ◌≢◌, ℕ, Bool, true, false, cond, ◌==◌, not, refl, arith, subst, Option}
+use Rattle.std.proofs.lemmas.Bool.{ne_eqb}
 use Rattle.std.proofs.lemmas.Bool.Decides.{nat_tests}
 use Rattle.line_invariant.specs.Types.{Want, Class}
 use Rattle.op_model.specs.Nodes.{listed}
 use Rattle.op_model.specs.Operations.{Words}
 use Rattle.op_model.specs.Lines.{Copy, Outcome, is_empty}
 use Rattle.op_model.specs.Events.Step.{put_at}
+use Rattle.op_model.proofs.Plain.{eqb-self}
 use Rattle.line_invariant.specs.Line.{Line, Lanes, after_row, sent, words_after, answered_after}
 use Rattle.line_invariant.specs.Good.{is_put, Status, Phase, role_in, IsGoodNode, IsGood, IsGoodHeader, IsGoodHome, expected}
-use Rattle.line_invariant.proofs.Basics.{eq-self, eq-apart}
 
 -- what holds of one node, and of each other one but the home
 each : (P : ℕ → Copy → Option Want → Status → Type 0) (home p : ℕ) (copy : ℕ → Copy) (want : ℕ → Option Want) (status : ℕ → Status) (c : Copy) (w : Option Want) (s : Status) →
@@ -34,7 +35,7 @@ module _ (home p : ℕ) (line : Line) (good : IsGood home line) (apart : p ≢ h
       IsGood home (after_row home p outcome (record line { lane = lane }))
   remote-step answered lanes header at_home it others =
       let words : Words = words_after outcome.served line.words in
-      let off : (p == home) ≡ false = eq-apart p home apart in
+      let off : (p == home) ≡ false = ne_eqb p home apart in
       let away : (home == p) ≡ false = grind (arith, nat_tests) in
       record {
         phase = phase;
@@ -61,7 +62,7 @@ module _ (home p : ℕ) (line : Line) (good : IsGood home line) (apart : p ≢ h
       IsGood home (after_row home home outcome (record line { lane = lane }))
   home-step answered lanes header local unlisted at_home it others =
       let words : Words = words_after outcome.served line.words in
-      let on : (home == home) ≡ true = eq-self home in
+      let on : (home == home) ≡ true = eqb-self home in
       let away : (home == p) ≡ false = grind (arith, nat_tests) in
       record {
         phase = phase;
@@ -73,7 +74,7 @@ module _ (home p : ℕ) (line : Line) (good : IsGood home line) (apart : p ≢ h
         unlisted = simp on unlisted;
         at_home = simp (on, away) at_home;
         nodes = λ node far.
-            let off : (node == home) ≡ false = eq-apart node home far in
+            let off : (node == home) ≡ false = ne_eqb node home far in
             simp (on, off) (go words others it node far (node == p) refl);
       }
     where
@@ -96,7 +97,7 @@ module _ (home : ℕ) (line : Line) (outcome : Outcome) (phase : Phase) (status 
       ((node : ℕ) → node ≢ home → IsGoodNode (role_in home (words_after outcome.served line.words) phase node) (words_after outcome.served line.words) (listed outcome.share.header.list node) (line.copy node) (line.want node) (status node)) →
       IsGood home (after_row home home outcome (record line { lane = lane }))
   home-step-all answered lanes header local unlisted at_home nodes =
-      let on : (home == home) ≡ true = eq-self home in
+      let on : (home == home) ≡ true = eqb-self home in
       record {
         phase = phase;
         status = status;
@@ -106,7 +107,7 @@ module _ (home : ℕ) (line : Line) (outcome : Outcome) (phase : Phase) (status 
         local = simp on local;
         unlisted = simp on unlisted;
         at_home = simp on at_home;
-        nodes = λ node far. let off : (node == home) ≡ false = eq-apart node home far in simp (on, off) (nodes node far);
+        nodes = λ node far. let off : (node == home) ≡ false = ne_eqb node home far in simp (on, off) (nodes node far);
       }
 
 module _ (home p : ℕ) (line : Line) (good : IsGood home line) (apart : p ≢ home) (outcome : Outcome) (phase : Phase) (status : ℕ → Status) (lane : Lanes) where
@@ -121,7 +122,7 @@ module _ (home p : ℕ) (line : Line) (good : IsGood home line) (apart : p ≢ h
       ((node : ℕ) → node ≢ home → node ≢ p → IsGoodNode (role_in home line.words phase node) line.words (listed line.header.list node) (line.copy node) (line.want node) (status node)) →
       IsGood home (after_row home p outcome (record line { lane = lane }))
   remote-step-all same answered lanes header at_home it others =
-      let off : (p == home) ≡ false = eq-apart p home apart in
+      let off : (p == home) ≡ false = ne_eqb p home apart in
       let away : (home == p) ≡ false = grind (arith, nat_tests) in
       record {
         phase = phase;

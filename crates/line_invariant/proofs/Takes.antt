@@ -9,10 +9,10 @@ use Rattle.op_model.specs.Messages.{Content, Get, GetX, FwdGet, FwdGetX, Inv, Wb
 use Rattle.op_model.specs.Lines.{Copy, Absent, Shared, Exclusive, Room, Outcome, For, sending, is_exclusive}
 use Rattle.op_model.specs.Tables.Home.{on_wb, on_rpl, on_shwb, on_fack, on_nakc}
 use Rattle.op_model.specs.Tables.Remote.{gone, on_nak}
+use Rattle.op_model.proofs.Plain.{eqb-self}
 use Rattle.line_invariant.specs.Line.{Line, share_of, after_row, after_take, taken}
 use Rattle.line_invariant.specs.Good.{Carrier, Answered, Leaving, Duty, NoDuty, ToGive, Returned, Handed, Asked, SharedOut, HandedOn, told_part, reply_part, leaving_part, asking_part, asked_role, IsGoodNode, IsGood, IsGoodHeader, IsAnswerTo}
 use Rattle.line_invariant.specs.Rows.{wanting}
-use Rattle.line_invariant.proofs.Basics.{eq-self}
 use Rattle.line_invariant.proofs.Fronts.{wb-comes, rpl-comes, answer-comes, ack-first, requests-only, told-only, replies-only, fwd-first, fwdx-first, shwb-first, fack-first, nakc-first, put-first, putx-first, nak-first, request-home, request-apart, reply-home, request-away}
 use Rattle.line_invariant.proofs.Meets.{by-row, does-wb, does-rpl, does-shwb, does-fack, does-nakc, does-home-put, does-home-putx, does-home-nak, does-putx, does-fwd, does-fwdx, does-fwd-gone, does-fwdx-gone}
 use Rattle.line_invariant.proofs.RemoteRows.{good-inv, good-nak, good-put, answered}
@@ -46,7 +46,7 @@ module _ (home : ℕ) (line : Line) (good : IsGood home line) (from : ℕ) (rest
             (subst (λ f. IsGood home (after_row home p (gone home r (share_of line p)) (record line { lane = taken f p Request rest line.lane }))) (sym same) (good-gone home line good p apart rest empty false r holds phase duty))
         go holds phase same duty empty true held =
             let words = exclusive-words (line.copy p) held in
-            let it : IsGoodNode (asked_role holds (ToGive false r)) line.words (listed line.header.list p) (line.copy p) (line.want p) (good.status p) = rw (eq-self p) at (rw phase at (good.nodes p apart)) in
+            let it : IsGoodNode (asked_role holds (ToGive false r)) line.words (listed line.header.list p) (line.copy p) (line.want p) (good.status p) = rw (eqb-self p) at (rw phase at (good.nodes p apart)) in
             let is_held : holds ≡ true = node-holds line.words _ (line.copy p) (line.want p) (good.status p) holds (ToGive false r) it held in
             let out : Outcome = record { share = record (share_of line p) { copy = Shared words.0 }; sends = (r, Put words.0) ∷ backs home (cond (r == home) NoDuty (Returned words.0)); served = For r words.0; done = false } in
             by-row home from p Request (FwdGet r) rest room line out (does-fwd p home apart from room (share_of line p) r words.0 words.1)
@@ -65,7 +65,7 @@ module _ (home : ℕ) (line : Line) (good : IsGood home line) (from : ℕ) (rest
             (subst (λ f. IsGood home (after_row home p (gone home r (share_of line p)) (record line { lane = taken f p Request rest line.lane }))) (sym same) (good-gone home line good p apart rest empty true r holds phase duty))
         go holds phase same duty empty true held =
             let words = exclusive-words (line.copy p) held in
-            let it : IsGoodNode (asked_role holds (ToGive true r)) line.words (listed line.header.list p) (line.copy p) (line.want p) (good.status p) = rw (eq-self p) at (rw phase at (good.nodes p apart)) in
+            let it : IsGoodNode (asked_role holds (ToGive true r)) line.words (listed line.header.list p) (line.copy p) (line.want p) (good.status p) = rw (eqb-self p) at (rw phase at (good.nodes p apart)) in
             let is_held : holds ≡ true = node-holds line.words _ (line.copy p) (line.want p) (good.status p) holds (ToGive true r) it held in
             let out : Outcome = sending (record (share_of line p) { copy = Absent }) ((r, PutX words.0) ∷ backs home (cond (r == home) NoDuty Handed)) in
             by-row home from p Request (FwdGetX r) rest room line out (does-fwdx p home apart from room (share_of line p) r words.0 words.1)

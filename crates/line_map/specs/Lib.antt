@@ -1,2 +1,4 @@
+pub mod Factors
 pub mod Sizes
 pub mod Words
+pub mod Codes

@@ -1,5 +1,5 @@
 -- The words of a line in a fixed room of sixteen.
-use Rattle.std.specs.Prelude.{◌≡◌, ℕ, zero, suc, ◌+◌, ◌-◌, ◌≤◌, ◌<◌, List, [], ◌∷◌, ◌++◌, take, replicate, length, refl}
+use Rattle.std.specs.Prelude.{◌≡◌, ℕ, zero, suc, ◌-◌, ◌≤◌, List, [], ◌∷◌, ◌++◌, take, replicate, length, refl}
 use Rattle.std.proofs.Common.{ap, arith}
 
 -- the words and, behind them, zeros

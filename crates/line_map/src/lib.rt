@@ -3,6 +3,7 @@
 
 mod address;
 mod body;
+mod divisor;
 mod machine;
 #[cfg(test)]
 mod tests;

@@ -1,9 +1,10 @@
 //! The sizes of a machine, each within its limits, and its address map.
 
-ghost use Rattle.std.specs.Prelude.{◌≡◌, ◌*◌, ◌<◌, ◌≤◌, Result};
+ghost use Rattle.std.specs.Prelude.{◌≡◌, ◌*◌, ◌<◌, ◌≤◌, Result, true};
 ghost use Rattle.line_map.specs.Sizes.{Sizes, AreSizes, sizes_of, in_limits, all_lines, all_words, limited as limited_of, word_at, line_of as line_of_word, place_of, home_of as home_of_line, set_of as set_of_line};
 
 use crate::address::{Addr, BadAddr};
+use crate::divisor::Divisor;
 use std::marker::Model;
 
 /// The most nodes that a machine has.
@@ -42,10 +43,10 @@ pub struct OutOfRange {
 #[derive(Clone, Copy)]
 pub struct Machine {
     nodes: u32,
-    lines: u32,
-    words: u32,
+    lines: Divisor,
+    words: Divisor,
     links: u32,
-    sets: u32,
+    sets: Divisor,
     pending: u32,
     evicts: u32,
 }
@@ -109,6 +110,14 @@ fn limited(field: Field, value: u64) -> Result<u32, OutOfRange>
     }
 }
 
+// A size that lines or words are divided by.
+fn divisor(field: Field, value: u64) -> Result<Divisor, OutOfRange>
+    requires { in_limits field value ≡ true → (1 ≤ value) × (value ≤ 4096) }
+    ensures { result ≡ limited_of field value }
+{
+    Ok(Divisor::new(limited(field, value)?))
+}
+
 impl Machine {
     /// The machine of these sizes. The error names the first one, in the order of the parameters, that is outside its limits.
     #[tactic(auto, unfolding(crate::specs::Sizes::sizes_of))]
@@ -125,10 +134,10 @@ impl Machine {
     {
         Ok(Machine {
             nodes: limited(Field::Nodes, nodes)?,
-            lines: limited(Field::Lines, lines)?,
-            words: limited(Field::Words, words)?,
+            lines: divisor(Field::Lines, lines)?,
+            words: divisor(Field::Words, words)?,
             links: limited(Field::Links, links)?,
-            sets: limited(Field::Sets, sets)?,
+            sets: divisor(Field::Sets, sets)?,
             pending: limited(Field::Pending, pending)?,
             evicts: limited(Field::Evicts, evicts)?,
         })
@@ -147,7 +156,7 @@ impl Machine {
         ensures value { result ≡ self.now.lines }
         ensures small { (1 ≤ result) × (result ≤ 4096) }
     {
-        self.lines
+        self.lines.value()
     }
 
     /// How many words a line has.
@@ -155,7 +164,7 @@ impl Machine {
         ensures value { result ≡ self.now.words }
         ensures small { (1 ≤ result) × (result ≤ 16) }
     {
-        self.words
+        self.words.value()
     }
 
     /// How many links each node has.
@@ -171,7 +180,7 @@ impl Machine {
         ensures value { result ≡ self.now.sets }
         ensures small { (1 ≤ result) × (result ≤ 1024) }
     {
-        self.sets
+        self.sets.value()
     }
 
     /// How many lines of one home may be pending.
@@ -234,7 +243,7 @@ impl Machine {
         ensures value { result ≡ line_of_word self.now a }
         ensures below { result < all_lines self.now }
     {
-        a.word() / self.words()
+        self.words.quotient(a.word())
     }
 
     /// The place of an address in its line.
@@ -243,7 +252,7 @@ impl Machine {
         ensures value { result ≡ place_of self.now a }
         ensures below { result < self.now.words }
     {
-        a.word() % self.words()
+        self.words.remainder(a.word())
     }
 
     /// The node whose memory holds a line.
@@ -252,7 +261,7 @@ impl Machine {
         ensures value { result ≡ home_of_line self.now g }
         ensures below { result < self.now.nodes }
     {
-        g / self.lines()
+        self.lines.quotient(g)
     }
 
     /// The set of each cache that a line goes into.
@@ -261,6 +270,6 @@ impl Machine {
         ensures value { result ≡ set_of_line self.now g }
         ensures below { result < self.now.sets }
     {
-        g % self.sets()
+        self.sets.remainder(g)
     }
 }

@@ -40,7 +40,7 @@ called-acks home (Asked false r o f h) words header copy g good waits = absurd (
 called-acks home (SharedOut r o) words header copy g good waits = absurd (grind arith)
 called-acks home (HandedOn r o h) words header copy g good waits = absurd (grind arith)
 
-last-listed : (list : Nodes) (p : ℕ) (acks : ℕ) → listed list p ≡ true → acks ≡ count list → nat_le acks 1 ≡ true → nobody_listed (unlist list p) ≡ true
+pub last-listed : (list : Nodes) (p : ℕ) (acks : ℕ) → listed list p ≡ true → acks ≡ count list → nat_le acks 1 ≡ true → nobody_listed (unlist list p) ≡ true
 last-listed list p acks has is last = grind (arith, nat_tests, listings)
 
 abbrev Leaves : Outcome → Type 0

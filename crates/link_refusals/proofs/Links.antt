@@ -19,12 +19,12 @@ use Rattle.op_model.specs.declared.events.Class.{Class}
 use Rattle.op_model.specs.declared.events.Event.TheVariants.{Take}
 use Rattle.op_model.specs.declared.events.Event.{Event}
 use Rattle.op_model.specs.declared.messages.Msg.{Msg}
+use Rattle.op_model.proofs.Plain.{eqb-self, three_parts, above_one, and_above_one}
 use Rattle.line_invariant.specs.Types.{NoLink}
-use Rattle.line_invariant.proofs.Basics.{eq-self}
 use Rattle.one_history.proofs.Events.{refuses}
 use Rattle.one_history.proofs.Shares.{header-same}
 use Rattle.lane_bounds.proofs.Acts.{after_act, after_row_of, row-kept, taken_of}
-use Rattle.lane_bounds.proofs.Effects.{all3, asks_victim, each-taken, is_fit, row_at}
+use Rattle.lane_bounds.proofs.Effects.{asks_victim, each-taken, is_fit, row_at}
 use Rattle.lane_bounds.proofs.Kept.{IsBounded}
 use Rattle.lane_bounds.proofs.Runs.{bounded-run}
 use Rattle.link_refusals.specs.Refusals.{IsLinkPending, refuses_link}
@@ -32,14 +32,11 @@ use Rattle.link_refusals.proofs.Entries.{Found, found}
 use Rattle.link_refusals.proofs.Reasons.{IsReason, any-tagged, refuses_row, why-refused}
 
 many-listed : (room : Room) (header : Header) → holds_link room header ≡ true → 1 < count header.list
-many-listed room header e = go room.linked (count header.list) e
-  where
-    go : (l : Bool) (n : ℕ) → (l && not (n == 0) && not (n == 1)) ≡ true → 1 < n
-    go l n e = grind (arith, nat_tests)
+many-listed room header e = above_one room.linked (count header.list) e
 
 -- the header of a line after a row at its home
 pub header-at : (sizes : Sizes) (state : State) (home line : ℕ) (outcome : Outcome) → home ≡ home_of sizes line → header_of sizes ((after_row_of sizes home line outcome state).share home) line ≡ outcome.share.header
-header-at sizes state home line outcome here = rw (eq-self home) (header-same sizes (home == home_of sizes line) line outcome.done outcome.share (state.share home) (grind (arith, nat_tests)))
+header-at sizes state home line outcome here = rw (eqb-self home) (header-same sizes (home == home_of sizes line) line outcome.done outcome.share (state.share home) (grind (arith, nat_tests)))
 
 module _ (charge : Charge) (sizes : Sizes) (state : State) (bounded : IsBounded charge sizes state) (src dst : ℕ) (class : Class) (line : ℕ) (content : Content) (rest : List Msg) where
   abbrev outcome : Outcome
@@ -61,12 +58,9 @@ module _ (charge : Charge) (sizes : Sizes) (state : State) (bounded : IsBounded 
       let f : Found (λ h. is_pending h && nat_lt 1 (count h.list)) (fin.entries (state.share dst).headers) = found (λ h. is_pending h && nat_lt 1 (count h.list)) (fin.entries (state.share dst).headers) (fin.entries_sorted (state.share dst).headers) is in
       let at : fin.get (state.share dst).headers f.0 ≡ Some f.1 = fin.get-entries (state.share dst).headers f.0 ∙ f.2 in
       let has : header_of sizes (state.share dst) f.0 ≡ f.1 = ap (λ o. unwrap_or o (first_header sizes)) at in
-      let both = two (is_pending f.1) (count f.1.list) f.3 in
+      let both = and_above_one (is_pending f.1) (count f.1.list) f.3 in
       record { line = f.0; of_home = own f.0 f.1 at (home_of sizes f.0 == dst) refl; pending = ap is_pending has ∙ both.0; several = subst (λ h. 1 < count h.list) (sym has) both.1 }
     where
-      two : (a : Bool) (n : ℕ) → (a && nat_lt 1 n) ≡ true → (a ≡ true) × (1 < n)
-      two a n e = (grind (arith, nat_tests), grind (arith, nat_tests))
-
       own : (g : ℕ) (h : Header) → fin.get (state.share dst).headers g ≡ Some h → (c : Bool) → (home_of sizes g == dst) ≡ c → home_of sizes g ≡ dst
       own g h is true e = grind (arith, nat_tests)
       own g h is false e = absurd (let far : home_of sizes g ≢ dst = grind (arith, nat_tests) in let n : ◌≡◌ {A = Option Header} None (Some h) = sym (bounded.own dst g far) ∙ is in cc)
@@ -90,9 +84,9 @@ module _ (charge : Charge) (sizes : Sizes) (state : State) (bounded : IsBounded 
 
   pub refused-call : (g : ℕ) → asks_victim charge sizes state src dst line content ≡ true → is_fit charge sizes state dst g ≡ true → IsLinkPending sizes (after_row_of sizes dst g (call_in (share_at sizes next dst g)) next) dst
   refused-call g asks fit =
-      let want = all3 (is_get content) (dst == home_of sizes line) (wants_victim (room_of charge sizes (state.share dst)) src (share_at sizes state dst line).header) asks in
+      let want = three_parts (is_get content) (dst == home_of sizes line) (wants_victim (room_of charge sizes (state.share dst)) src (share_at sizes state dst line).header) asks in
       let same : outcome.share ≡ share_at sizes state dst line = refuses dst (home_of sizes line) src (is_empty (share_at sizes state dst line).copy) (room_of charge sizes (state.share dst)) content (share_at sizes state dst line) want.0 want.2 in
-      let fits = all3 (home_of sizes g == dst) (holds_link (room_of charge sizes (state.share dst)) (share_at sizes state dst g).header) (not (is_pending (share_at sizes state dst g).header)) fit in
+      let fits = three_parts (home_of sizes g == dst) (holds_link (room_of charge sizes (state.share dst)) (share_at sizes state dst g).header) (not (is_pending (share_at sizes state dst g).header)) fit in
       let here : home_of sizes g ≡ dst = let e = fits.0 in grind (arith, nat_tests) in
       let many : 1 < count (share_at sizes state dst g).header.list = many-listed (room_of charge sizes (state.share dst)) (share_at sizes state dst g).header fits.1 in
       let k : (share_at sizes next dst g).header ≡ (share_at sizes state dst g).header = subst (λ n. header_of sizes (next.share n) g ≡ header_of sizes (state.share n) g) (sym here) (kept g here same want.1) in

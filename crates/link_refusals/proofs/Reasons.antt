@@ -1,6 +1,7 @@
 -- A row refuses for want of a link only a Get at the home, which keeps its share, and only where a pending line holds a link or a line
 -- is called in: of all rows two send such a Nak.
 use Rattle.std.proofs.Common.{◌≡◌, ℕ, Bool, true, false, cond, nat_le, ◌||◌, ◌==◌, ◌&&◌, not, ◌⊎◌, inl, inr, List, [], ◌∷◌, ◌++◌, refl, arith, sym, ◌∙◌, Option, Some, None}
+use Rattle.std.proofs.lemmas.Bool.{and_parts}
 use Rattle.std.specs.List.{list_any}
 use Rattle.op_model.specs.Events.Node.{is_get, messages}
 use Rattle.op_model.specs.Lines.{Header, LineShare, Outcome, Room, is_exclusive, is_idle, is_pending, to_each, words_of}
@@ -37,7 +38,7 @@ pub record IsReason (me home src : ℕ) (room : Room) (content : Content) (row :
 abbrev Clear : Outcome → Type 0
 Clear o = refuses_row o ≡ false
 
-clear-each : (nodes : List ℕ) → list_any {X = ℕ × Content} (λ send. is_nak NoLink send.1) (to_each nodes) ≡ false
+pub clear-each : (nodes : List ℕ) → list_any {X = ℕ × Content} (λ send. is_nak NoLink send.1) (to_each nodes) ≡ false
 clear-each [] = refl
 clear-each (n ∷ ns) = clear-each ns
 
@@ -82,16 +83,13 @@ module _ (room : Room) (row : LineShare) where
     unfolding on_get wants_victim
     why-get here =
         if-either (Reasons Get) (is_pending header) _ _ (λ _. clear Get _ refl) (λ idle.
-        (if-either (Reasons Get) (lacks_link room src header && room.link_pending) _ _ (λ both _. record { get = refl; at_home = here; same = refl; why = inl (second (lacks_link room src header) room.link_pending both) }) (λ not_both.
+        (if-either (Reasons Get) (lacks_link room src header && room.link_pending) _ _ (λ both _. record { get = refl; at_home = here; same = refl; why = inl (and_parts (lacks_link room src header) room.link_pending both).1 }) (λ not_both.
         (if-either (Reasons Get) (lacks_link room src header && room.full) _ _ (λ _. clear Get _ refl) (λ not_full.
         (if-either (Reasons Get) (lacks_link room src header) _ _ (λ lacks _. record { get = refl; at_home = here; same = refl; why = inr (all (is_pending header) (lacks_link room src header) room.link_pending room.full idle lacks not_both not_full) }) (λ _.
         (if-either (Reasons Get) (header.dirty && header.local) _ _ (λ _. clear Get _ refl) (λ _.
         (if-either (Reasons Get) (header.dirty && room.full) _ _ (λ _. clear Get _ refl) (λ _.
         (if-either (Reasons Get) header.dirty _ _ (λ _. clear Get _ refl) (λ _. clear Get _ refl)))))))))))))
       where
-        second : (a b : Bool) → (a && b) ≡ true → b ≡ true
-        second a b e = grind arith
-
         all : (a b c d : Bool) → a ≡ false → b ≡ true → (b && c) ≡ false → (b && d) ≡ false → (not a && b && not c && not d) ≡ true
         all a b c d p q r s = grind arith
 

@@ -6,6 +6,7 @@ use Rattle.std.proofs.lemmas.Bool.Decides.{nat_tests}
 use Rattle.std.proofs.lemmas.Bool.{cases_lt}
 use Rattle.std.proofs.lemmas.List.{get_or-set_other}
 use Rattle.std.proofs.lemmas.List.Sums.{sum_by-set, get_or-le-sum_by}
+use Rattle.op_model.proofs.Plain.{eqb-self}
 use Rattle.link_store.specs.Pools.{Chain, links_of, times_in, times, Pool, chain_of, IsPartition}
 
 pub times_in-append : (x : ℕ) (links more : List ℕ) → times_in x (links ++ more) ≡ times_in x links + times_in x more
@@ -19,11 +20,8 @@ links_of-append (e ∷ chain) more = ap (λ links. e.0 ∷ links) (links_of-appe
 pub times_in-chains : (x : ℕ) (chain more : Chain) → times_in x (links_of (chain ++ more)) ≡ times_in x (links_of chain) + times_in x (links_of more)
 times_in-chains x chain more = ap (times_in x) (links_of-append chain more) ∙ times_in-append x (links_of chain) (links_of more)
 
-same_test : (x : ℕ) → (x == x) ≡ true
-same_test x = grind (arith, nat_tests)
-
 pub times_in-same : (x : ℕ) (links : List ℕ) → times_in x (x ∷ links) ≡ 1 + times_in x links
-times_in-same x links = rw (same_test x)
+times_in-same x links = rw (eqb-self x)
 
 -- a link stands in a list where it is an element of it
 pub contains_times : (x : ℕ) (links : List ℕ) → Contains links x → 0 < times_in x links

@@ -2,6 +2,7 @@
 use Rattle.std.proofs.Common.{◌≡◌, ℕ, List, [], ◌∷◌, ◌++◌, refl, arith, ap, sym, ◌∙◌, subst, OnOk, Option, Some, None, Result, Ok, Err}
 use Rattle.std.specs.Prelude.{slice_get, unwrap_or}
 use Rattle.std.proofs.lemmas.Option.{slice_get_within}
+use Rattle.line_map.specs.Sizes.{Sizes, AreSizes}
 use Rattle.op_model.specs.declared.events.Cause.{Cause}
 use Rattle.op_model.specs.declared.events.Event.{Event}
 use Rattle.op_model.specs.declared.operations.Op.{Op}
@@ -31,6 +32,18 @@ module _ {D : Type 0} (view : MachineView D) where
 
   pub made-running : IsMachine view → IsRunning (run_made view)
   made-running is = record { sizes = is.sizes_are; programs = program-of is.programs_are; ran = made-ran is }
+
+-- each operation of these programs is one at its place
+abbrev AreOpsOf : Sizes → List (List Op) → Type 0
+AreOpsOf sizes programs = (node place : ℕ) (op : Op) → slice_get (programs_of programs node) place ≡ Some op → IsProgramOp sizes node place op
+
+-- what a machine keeps, after a call
+pub kept-running : {D : Type 0} (old new : MachineView D) → new.sizes ≡ old.sizes → new.programs ≡ old.programs → IsRunning (run_made old) → (past : Past) → run_of new ≡ Some past → IsRunning (run_made new)
+kept-running old new sizes programs was past ran = record {
+  sizes = subst AreSizes (sym sizes) was.sizes;
+  programs = subst (λ (s : Sizes). AreOpsOf s new.programs) (sym sizes) (subst (AreOpsOf old.sizes) (sym programs) was.programs);
+  ran = ran ∙ ap Some (sym (made-past new past ran));
+}
 
 -- an event that is made
 pub made-applied : {D : Type 0} (old new : MachineView D) (event : Event) → new.sizes ≡ old.sizes → new.programs ≡ old.programs → new.charge ≡ old.charge → new.events ≡ old.events ++ event ∷ [] → (past : Past) → run_of old ≡ Some past → IsNext old new past event →

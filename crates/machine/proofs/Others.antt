@@ -1,19 +1,15 @@
--- What a schedule reads is what it says of the state: the other line in a cache set, whether a line is asked for, and a home's lines and links.
-use Rattle.std.proofs.Common.{◌≡◌, ℕ, ◌-◌, ◌≤◌, Bool, true, false, cond, not, ◌&&◌, ◌||◌, ◌==◌, List, [], ◌∷◌, refl, sym, ap, ◌∙◌, arith, Some, None, Result}
+-- What a schedule reads is what it says of the state: the other line in a cache set, and a home's lines and links.
+use Rattle.std.proofs.Common.{◌≡◌, ℕ, ◌-◌, ◌≤◌, Bool, true, false, cond, not, ◌&&◌, ◌||◌, ◌==◌, List, [], ◌∷◌, refl, sym, ap, ◌∙◌, arith, Some, None}
 use Rattle.std.specs.Prelude.{find, option_map, sum_by}
 use Rattle.std.specs.List.{list_any}
 use Rattle.std.specs.FinMap as fin
+use Rattle.std.proofs.lemmas.Bool.{not-true}
 use Rattle.std.proofs.lemmas.Bool.Decides.{nat_tests}
 use Rattle.std.proofs.lemmas.List.Sums.{sum_by-cons}
 use Rattle.line_map.specs.Sizes.{Sizes, set_of}
-use Rattle.op_model.specs.declared.events.Cause.{Cause}
-use Rattle.op_model.specs.declared.events.Class.{Class}
-use Rattle.op_model.specs.declared.messages.Msg.{Msg}
 use Rattle.op_model.specs.Nodes.{Nodes}
 use Rattle.op_model.specs.Lines.{is_empty}
-use Rattle.op_model.specs.Shares.{Charge, Linked, Unlinked, Share, State, copy_of, copy_in, links_among, pending_lines}
-use Rattle.op_model.specs.Events.Node.{TakeFrom, asks_victim, with_victim, by_row, taking, local, permit}
-use Rattle.op_model.specs.Events.Step.{Off, Programs, act, take_front, one_off}
+use Rattle.op_model.specs.Shares.{Charge, Linked, Unlinked, Share, copy_of, copy_in, links_among, pending_lines}
 use Rattle.op_model.specs.Run.Schedules.{other_in_set}
 use Rattle.op_model.specs.Run.Seeded.{free_links}
 use Rattle.cpu_cache.specs.Caches.{CacheView, is_set_taken}
@@ -22,7 +18,6 @@ use Rattle.dir_header.specs.HomeSides.{HomeView, IsHome}
 use Rattle.op_model.specs.Run.Machines.{MachineRun}
 use Rattle.dir_report.specs.Machines.{IsHome as IsHomeCounts}
 use Rattle.dir_report.specs.Reports.{held_by as held_of}
-use Rattle.machine.specs.Reads.{first_asks, is_missing}
 
 -- where one key alone passes, the first entry that passes is its
 found-one : {X : Type 0} (p : ℕ → Bool) (r : ℕ) (es : List (ℕ × X)) → ((q : ℕ) → p q ≡ true → q ≡ r) → list_any (λ e. p e.0) es ≡ true → option_map (λ e. e.0) (find (λ e. p e.0) es) ≡ Some r
@@ -65,29 +60,11 @@ module _ (sizes : Sizes) (share : Share) (line : ℕ) where
   other-some r taken only =
       found-one (λ q. (set_of sizes q == set_of sizes line) && not (q == line) && not (is_empty (copy_in share.copies q))) r (fin.entries share.copies)
       (λ q passes. let both = and-true (set_of sizes q == set_of sizes line) (not (q == line)) (not (is_empty (copy_in share.copies q))) passes in
-      only q (let a = both.0 in grind (arith, nat_tests)) (held (is_empty (copy_in share.copies q)) both.1)) taken
-    where
-      held : (b : Bool) → not b ≡ true → b ≡ false
-      held true e = cc
-      held false e = refl
+      only q (let a = both.0 in grind (arith, nat_tests)) (not-true (is_empty (copy_in share.copies q)) both.1)) taken
 
 pub untaken : (b : Bool) → (b ≡ true → ⊥) → b ≡ false
 untaken true never = absurd (never refl)
 untaken false never = refl
-
--- a line is asked for where a Take without one is refused for want of it
-module _ (charge : Charge) (sizes : Sizes) (programs : Programs) (state : State) (src dst : ℕ) (class : Class) where
-  local-asks : (m : Msg) (off : Off) → is_missing (permit (act dst off (local charge sizes dst (programs dst) (state.share dst) (TakeFrom src m None)))) ≡ asks_victim charge sizes dst (state.share dst) src m
-  unfolding local
-  local-asks m off = go (asks_victim charge sizes dst (state.share dst) src m)
-    where
-      go : (b : Bool) → is_missing (permit (act dst off (with_victim charge sizes dst (state.share dst) b None (by_row sizes dst (state.share dst) (Rattle.op_model.specs.Messages.msg_line m) (taking charge sizes dst (state.share dst) src m))))) ≡ b
-      go true = refl
-      go false = refl
-
-  pub front-asks : (messages : List Msg) (r : Result (Unit {0}) Cause) → r ≡ permit (take_front charge sizes programs state src dst class None messages) → is_missing r ≡ first_asks charge sizes state src dst messages
-  front-asks [] r is = ap is_missing is
-  front-asks (m ∷ rest) r is = ap is_missing is ∙ local-asks m (one_off src dst class)
 
 nothing-held : (lists : List Nodes) → sum_by (held_by Unlinked) lists ≡ 0
 nothing-held [] = refl

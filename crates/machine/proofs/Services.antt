@@ -18,6 +18,7 @@ use Rattle.op_model.specs.Tables.Processor.{serves, hit, begin_op, begin_at_home
 use Rattle.op_model.specs.Tables.Home.{on_get, on_getx, on_inv_ack, on_shwb, on_fack, on_nakc, on_wb, on_rpl, grant}
 use Rattle.op_model.specs.Tables.Remote.{meets, on_message, row_of, on_fwd_get, on_fwd_getx, on_inv, on_put, on_putx, on_nak}
 use Rattle.op_model.specs.Events.Node.{Input, HitNext, IssueNext, EvictLine, TakeFrom, ReclaimLine, NodeOutcome, local, with_next, hit_next, issue_next, evict_line, with_victim, by_row, and_call, map_ok, bind, is_outstanding, taking, asks_victim, fits_victim, departs}
+use Rattle.op_model.proofs.Shares.{want-stays}
 use Rattle.magic_node.specs.Nodes.{input_of}
 use Rattle.magic_node.specs.declared.acts.LocalEvent.{LocalEvent}
 use Rattle.magic_node.specs.declared.acts.LocalEvent.TheVariants as own
@@ -167,15 +168,6 @@ message-undone me home src alone room content share is = go (meets me home src a
     go : (b : Bool) → is_for (cond b (row_of me home src room content share) (sending share no_message)).served ≡ true → (cond b (row_of me home src room content share) (sending share no_message)).done ≡ false
     go true e = row-undone me home src room content share e
     go false e = refl
-
--- what a node has begun stays where a row of a line leaves it
-want-stays : (sizes : Sizes) (want : Option Want) (line : ℕ) → want_after sizes want line (want_on sizes want line) ≡ want
-want-stays sizes None line = refl
-want-stays sizes (Some want) line = go (line_of sizes want.op.word == line)
-  where
-    go : (b : Bool) → cond b (cond b (Some want) None) (Some want) ≡ Some want
-    go true = refl
-    go false = refl
 
 -- the place of a node moves where its operation is done, and only there
 abbrev IsPlaced : Share → NodeOutcome → Type 0

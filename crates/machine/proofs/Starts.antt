@@ -6,6 +6,7 @@ use Rattle.std.proofs.lemmas.Bool.Decides.{nat_tests}
 use Rattle.std.proofs.lemmas.List.Sums.{sum_by-cons}
 use Rattle.std.proofs.lemmas.Option.{same_Some, slice_get_within}
 use Rattle.std.proofs.lemmas.List.{length-map, length-append, append-nil, append_assoc, map_push, length_push}
+pub use Rattle.std.proofs.lemmas.List.{nil_from_length as none-left}
 use Rattle.line_map.specs.Sizes.{Sizes, AreSizes}
 use Rattle.op_model.specs.declared.operations.Op.{Op}
 use Rattle.op_model.specs.Shares.{Share}
@@ -19,10 +20,6 @@ use Rattle.machine.specs.Starts.{charge_of, IsFreshOf, AreFresh, IsNewAt, AreNew
 use Rattle.machine.specs.Faces.{Face, start_face}
 use Rattle.op_model.specs.Programs.{IsProgramOf, ArePrograms}
 use Rattle.machine.proofs.Faces.{slice_get-mapped}
-
-pub none-left : {A : Type 0} (xs : List A) → length xs ≡ 0 → xs ≡ []
-none-left [] e = refl
-none-left (x ∷ xs) e = absurd (omega arith)
 
 slice_get-push_below : {A : Type 0} (xs : List A) (x : A) (k : ℕ) → k < length xs → slice_get (xs ++ x ∷ []) k ≡ slice_get xs k
 slice_get-push_below [] x k below = absurd (omega arith)

@@ -15,7 +15,7 @@ use Rattle.op_model.specs.Run.History.{history, is_completed, kept_of, IsOneHist
 use Rattle.op_model.specs.Run.Rest.{IsAtRest}
 use Rattle.op_model.specs.Run.Runs.{Past, start, run_by}
 use Rattle.op_model.specs.Run.Weight.{weight}
-use Rattle.op_model.specs.Events.Step.{Done, effect, after}
+use Rattle.op_model.specs.Events.Step.{Done, effect, after, IsTake}
 use Rattle.op_model.specs.declared.events.Event.TheVariants.{Hit, Issue, Evict, Take, Reclaim}
 use Rattle.one_history.proofs.OneHistory.{one_history}
 use Rattle.rest_laws.proofs.AtRest.{resting}
@@ -23,17 +23,17 @@ use Rattle.rest_laws.proofs.Falls.{falling_weight}
 use Rattle.rest_laws.proofs.Enabled.{enabled_take}
 use Rattle.lane_queues.specs.LaneStates.{LaneState, AreEmpty}
 use Rattle.msg_words.specs.SendList.{SendList}
-use Rattle.machine.specs.Machines.{MachineView, run_of, trace_of, AreAllDone, IsMachine, IsNext, IsTake, effect_in}
+use Rattle.machine.specs.Machines.{MachineView, run_of, trace_of, AreAllDone, IsMachine, IsNext, effect_in}
 use Rattle.machine.specs.Kept.{share_in, state_of, programs_in, charge_in, left_at, IsKept}
 use Rattle.machine.specs.Views.{view_by, IsNodeOf}
 use Rattle.machine.proofs.Faces.{slice_get-read, programs_of-at, share_in-at}
-use Rattle.machine.proofs.Tallies.{take-push}
 use Rattle.machine.proofs.Laws.{some-words, some-links, traced, programs-are}
 use Rattle.machine.proofs.Programs.{program-of}
 use Rattle.machine.specs.Faces.{Face}
 use Rattle.op_model.specs.Programs.{programs_of}
 use Rattle.op_model.specs.Run.Machines.{IsEventOf}
 use Rattle.op_model.proofs.Runs.{run-split}
+use Rattle.op_model.proofs.Plain.{take-next}
 
 -- one entry more
 pub kept_of-push : (state : State) (entries : List Entry) (entry : Entry) → kept_of state (entries ++ entry ∷ []) ≡ kept_of state entries ++ cond (is_completed state entry) (entry ∷ []) []
@@ -47,7 +47,7 @@ kept_of-push state (e ∷ entries) entry = go (is_completed state e) (kept_of-pu
 
 pub kept-next : (state : State) (served : List Entry) (i : ℕ) (entry d : Entry) → i < length served → entry ≡ get_or served i d →
     kept_of state (take (i + 1) served) ≡ kept_of state (take i served) ++ cond (is_completed state entry) (entry ∷ []) []
-kept-next state served i entry d within is = ap (kept_of state) (take-push served i entry (slice_get-read served i d entry within is)) ∙ kept_of-push state (take i served) entry
+kept-next state served i entry d within is = ap (kept_of state) (take-next served i entry (slice_get-read served i d entry within is)) ∙ kept_of-push state (take i served) entry
 
 -- a completed one is kept, and one that isn't is left out
 pub kept-one : (state : State) (served : List Entry) (i : ℕ) (d : Entry) (items items' : List Entry) → i < length served → items ≡ kept_of state (take i served) → items' ≡ items ++ get_or served i d ∷ [] → true ≡ is_completed state (get_or served i d) →

@@ -7,5 +7,4 @@ pub mod Journals
 pub mod Answers
 pub mod Starts
 pub mod Views
-pub mod Reads
 pub mod Driven

@@ -4,10 +4,9 @@ use Rattle.std.specs.List.{flat_map}
 use Rattle.line_map.specs.Sizes.{Sizes, AreSizes}
 use Rattle.op_model.specs.declared.events.Cause.{Cause}
 use Rattle.op_model.specs.declared.events.Event.{Event}
-use Rattle.op_model.specs.declared.events.Event.TheVariants.{Take}
 use Rattle.op_model.specs.declared.operations.Op.{Op}
 use Rattle.op_model.specs.Shares.{Trace, Charge, State}
-use Rattle.op_model.specs.Events.Step.{Done, effect, after}
+use Rattle.op_model.specs.Events.Step.{Done, effect, after, IsTake}
 use Rattle.op_model.specs.Run.Runs.{Past, past_after, start, run_by}
 use Rattle.op_model.specs.Run.Weight.{weight}
 use Rattle.machine_face.specs.declared.refusal.ApplyError.{ApplyError}
@@ -36,10 +35,6 @@ effect_in view state event = effect view.charge view.sizes (programs_of view.pro
 -- every program is done: no node has an operation left
 abbrev pub AreAllDone : {D : Type 0} → MachineView D → State → Type 0
 AreAllDone view state = (node : ℕ) → length (programs_of view.programs node) ≤ (state.share node).place
-
-abbrev pub IsTake : Event → Type 0
-IsTake (Take src dst class victim) = Unit {0}
-IsTake _ = ⊥
 
 -- what an event makes of the run. A message that is taken weighs more than all that are sent for it
 pub record IsNext {D : Type 0} (old new : MachineView D) (past : Past) (event : Event) : Type 0 where

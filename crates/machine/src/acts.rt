@@ -1,14 +1,15 @@
 //! What an event does at its node.
 
-ghost use Rattle.std.specs.Prelude.{◌≡◌, ◌<◌, map, true, IfOk, IfErr, OnErr};
+ghost use Rattle.std.specs.Prelude.{◌≡◌, ◌<◌, map, true, All, IfOk, IfErr, OnErr};
 ghost use Rattle.op_model.specs.MessageWords.{IsMsgOf};
 ghost use Rattle.op_model.specs.Events.Node.{TakeFrom, meets_row};
 ghost use Rattle.machine.specs.Kept.{AreNodes, AreLanesOf, charge_in, no_sends, share_in};
 ghost use Rattle.magic_node.specs.Nodes.{FitsEvent, input_of};
 ghost use Rattle.op_model.specs.Run.Machines.{IsEventOf};
-ghost use Rattle.machine.specs.Faces.{face_of};
+ghost use Rattle.machine.specs.Faces.{face_of, dir_of};
 ghost use Rattle.machine.specs.Acts.{IsDoneAt, IsRefusedAt, IsAlone, IsAct, IsRefusedIn, AreFrontsMet, is_marked_put};
 
+use crate::nodes::told_dir;
 use cpu_cache::Effect;
 use dir_header::Sharers;
 use lane_queues::Lanes;
@@ -36,17 +37,21 @@ fn do_alone<D: Sharers>(
     room: bool,
 ) -> Result<Effect, Cause>
     requires nodes { AreNodes cfg (charge_in (map face_of nodes.old.items)) (map face_of nodes.old.items) }
+    requires dirs { All D.is_sound (map dir_of nodes.old.items) }
     requires below { node < cfg.nodes }
     requires line { FitsEvent cfg node event }
     requires nothing { out.old ≡ no_sends cfg }
     ensures ok { IfOk result (λ effect. IsDoneAt cfg (map face_of nodes.old.items) (map face_of nodes.new.items) node (input_of event room) out.new.list effect) }
     ensures err { IfErr result (λ cause. IsRefusedAt (map face_of nodes.old.items) node (input_of event room) cause) }
+    ensures dirs { All D.is_sound (map dir_of nodes.new.items) }
     ensures room { out.new.room ≡ out.old.room }
     ensures same { OnErr result ((nodes.new.items ≡ nodes.old.items) × (out.new ≡ out.old)) }
 {
     let node = &mut nodes[node as usize];
     let _kept = node.number();
-    node.local(event, room, out)
+    let done = node.local(event, room, out);
+    told_dir(node);
+    done
 }
 
 // A node takes a message and does its row.
@@ -60,6 +65,7 @@ fn do_take<D: Sharers>(
     victim: Option<u32>,
 ) -> Result<Effect, Cause>
     requires nodes { AreNodes cfg (charge_in (map face_of nodes.old.items)) (map face_of nodes.old.items) }
+    requires dirs { All D.is_sound (map dir_of nodes.old.items) }
     requires from { src < cfg.nodes }
     requires to { dst < cfg.nodes }
     requires message { IsMsgOf cfg msg.now }
@@ -67,12 +73,15 @@ fn do_take<D: Sharers>(
     requires nothing { out.old ≡ no_sends cfg }
     ensures ok { IfOk result (λ effect. IsDoneAt cfg (map face_of nodes.old.items) (map face_of nodes.new.items) dst (TakeFrom src msg.now victim) out.new.list effect) }
     ensures err { IfErr result (λ cause. IsRefusedAt (map face_of nodes.old.items) dst (TakeFrom src msg.now victim) cause) }
+    ensures dirs { All D.is_sound (map dir_of nodes.new.items) }
     ensures room { out.new.room ≡ out.old.room }
     ensures same { OnErr result ((nodes.new.items ≡ nodes.old.items) × (out.new ≡ out.old)) }
 {
     let node = &mut nodes[dst as usize];
     let _kept = node.number();
-    node.take(src, msg, victim, out)
+    let done = node.take(src, msg, victim, out);
+    told_dir(node);
+    done
 }
 
 // Whether a message is the Put of a load that was marked, elsewhere than at the line's home.
@@ -99,11 +108,13 @@ fn act_alone<D: Sharers>(
     room: bool,
 ) -> Result<Act, Cause>
     requires nodes { AreNodes cfg (charge_in (map face_of nodes.old.items)) (map face_of nodes.old.items) }
+    requires dirs { All D.is_sound (map dir_of nodes.old.items) }
     requires below { node < cfg.nodes }
     requires line { FitsEvent cfg node event }
     requires nothing { out.old ≡ no_sends cfg }
     ensures ok { IfOk result (λ act. IsAlone cfg (map face_of nodes.old.items) (map face_of nodes.new.items) node (input_of event room) out.new.list act) }
     ensures err { IfErr result (λ cause. IsRefusedAt (map face_of nodes.old.items) node (input_of event room) cause) }
+    ensures dirs { All D.is_sound (map dir_of nodes.new.items) }
     ensures room { out.new.room ≡ out.old.room }
     ensures same { OnErr result ((nodes.new.items ≡ nodes.old.items) × (out.new ≡ out.old)) }
 {
@@ -128,6 +139,7 @@ fn act_on_message<D: Sharers, Q: Lanes>(
     victim: Option<u32>,
 ) -> Result<Act, Cause>
     requires nodes { AreNodes cfg (charge_in (map face_of nodes.old.items)) (map face_of nodes.old.items) }
+    requires dirs { All D.is_sound (map dir_of nodes.old.items) }
     requires lanes { AreLanesOf cfg (Q.meaning lanes.now) }
     requires from { src < cfg.nodes }
     requires to { dst < cfg.nodes }
@@ -135,6 +147,7 @@ fn act_on_message<D: Sharers, Q: Lanes>(
     requires fronts { AreFrontsMet cfg (map face_of nodes.old.items) (Q.meaning lanes.now).lane }
     ensures ok { IfOk result (λ act. IsAct (charge_in (map face_of nodes.old.items)) cfg (map face_of nodes.old.items) (map face_of nodes.new.items) (Q.meaning lanes.now).lane (Event.Take src dst class victim) out.new.list act) }
     ensures err { IfErr result (λ cause. IsRefusedIn (charge_in (map face_of nodes.old.items)) cfg (map face_of nodes.old.items) (Q.meaning lanes.now).lane (Event.Take src dst class victim) cause) }
+    ensures dirs { All D.is_sound (map dir_of nodes.new.items) }
     ensures room { out.new.room ≡ out.old.room }
     ensures same { OnErr result ((nodes.new.items ≡ nodes.old.items) × (out.new ≡ out.old)) }
 {
@@ -160,12 +173,14 @@ pub(crate) fn do_event<D: Sharers, Q: Lanes>(
     event: Event,
 ) -> Result<Act, Cause>
     requires nodes { AreNodes cfg (charge_in (map face_of nodes.old.items)) (map face_of nodes.old.items) }
+    requires dirs { All D.is_sound (map dir_of nodes.old.items) }
     requires lanes { AreLanesOf cfg (Q.meaning lanes.now) }
     requires of_machine { IsEventOf cfg event }
     requires nothing { out.old ≡ no_sends cfg }
     requires fronts { AreFrontsMet cfg (map face_of nodes.old.items) (Q.meaning lanes.now).lane }
     ensures ok { IfOk result (λ act. IsAct (charge_in (map face_of nodes.old.items)) cfg (map face_of nodes.old.items) (map face_of nodes.new.items) (Q.meaning lanes.now).lane event out.new.list act) }
     ensures err { IfErr result (λ cause. IsRefusedIn (charge_in (map face_of nodes.old.items)) cfg (map face_of nodes.old.items) (Q.meaning lanes.now).lane event cause) }
+    ensures dirs { All D.is_sound (map dir_of nodes.new.items) }
     ensures room { out.new.room ≡ out.old.room }
     ensures same { OnErr result ((nodes.new.items ≡ nodes.old.items) × (out.new ≡ out.old)) }
 {

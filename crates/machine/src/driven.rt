@@ -6,7 +6,7 @@ ghost use Rattle.machine.specs.Machines.{run_of};
 ghost use Rattle.machine.specs.Driven.{run_made};
 
 use crate::machine::Machine1;
-use dir_header::Sharers;
+use dir_header::{Sharers, Victims};
 use lane_queues::Lanes;
 use line_map::Machine;
 use machine_face::{ApplyError, MachineFace};
@@ -93,9 +93,9 @@ impl<D: Sharers, Q: Lanes> MachineFace for Machine1<D, Q> {
         Machine1::least_victim(self, home)
     }
 
-    fn victim_at(&self, home: u32, i: u32) -> Option<u32> {
+    fn victims(&self, home: u32) -> Victims {
         let _cfg = self.told();
-        Machine1::victim_at(self, home, i)
+        Machine1::victims(self, home)
     }
 
     fn is_low(&self, home: u32) -> bool {

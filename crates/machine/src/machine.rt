@@ -1,6 +1,6 @@
 //! All nodes of the machine with the lanes between them, and the events that they have made.
 
-ghost use Rattle.std.specs.Prelude.{◌≡◌, ◌≢◌, ◌<◌, ◌↔◌, ℕ, ◌∷◌, ◌++◌, [], map, length, slice_get, IsTrue, IfOk, IfErr, OnOk, OnErr, Option, Some, Ok};
+ghost use Rattle.std.specs.Prelude.{◌≡◌, ◌≢◌, ◌<◌, ◌↔◌, ℕ, ◌∷◌, ◌++◌, [], map, length, slice_get, All, IsTrue, IfOk, IfErr, OnOk, OnErr, Option, Some, Ok};
 ghost use Rattle.op_model.specs.declared.events.Class.{Class};
 ghost use Rattle.op_model.specs.Events.Step.{Done};
 ghost use Rattle.op_model.specs.Run.Bounds.{request_bound, reply_bound};
@@ -40,7 +40,7 @@ pub struct Machine1<D: Sharers, Q: Lanes> {
 }
 
 impl<D: Sharers, Q: Lanes> Model for Machine1<D, Q> {
-    ghost use Rattle.std.specs.Prelude.{map};
+    ghost use Rattle.std.specs.Prelude.{map, All};
     ghost use Rattle.machine.specs.Machines.{MachineView};
 
     ghost Value = { MachineView D };
@@ -51,7 +51,7 @@ impl<D: Sharers, Q: Lanes> Model for Machine1<D, Q> {
 
     ghost view = { λ m. view_by m.run.cfg (map face_of m.run.nodes.items) m.run.journal.events.items (map dir_of m.run.nodes.items) };
 
-    ghost invariant = { λ m. IsKeptWith m.run.cfg (map face_of m.run.nodes.items) (Q.meaning m.run.lanes) m.run.journal m.run.out };
+    ghost invariant = { λ m. IsKeptWith m.run.cfg (map face_of m.run.nodes.items) (Q.meaning m.run.lanes) m.run.journal m.run.out × All D.is_sound (map dir_of m.run.nodes.items) };
 }
 
 impl<D: Sharers, Q: Lanes> Machine1<D, Q> {
@@ -88,7 +88,7 @@ impl<D: Sharers, Q: Lanes> Machine1<D, Q> {
         })
     }
 
-    /// Makes an event, which is then the last one of the run. It is refused for its first cause, where it has one. A refusal, and want of memory, change nothing.
+    /// Makes an event, which is then the last one of the run. It is refused for its first cause, where it has one. A refusal, and want of memory, change nothing. After each call the directory of each home is as all of its kind: with linked lists, each link is free, or in the list of exactly one line.
     pub fn apply(&mut self, event: Event) -> Result<(), ApplyError>
         requires { IsEventOf self.old.sizes event }
         ensures sizes { self.new.sizes ≡ self.old.sizes }
@@ -97,6 +97,7 @@ impl<D: Sharers, Q: Lanes> Machine1<D, Q> {
         ensures ran { (past : Past) × (run_of self.new ≡ Some past) }
         ensures ok { OnOk result (self.new.events ≡ self.old.events ++ event ∷ []) }
         ensures err { OnErr result (self.new ≡ self.old) }
+        ensures dirs { All D.is_sound self.new.dirs }
         ensures next { (past : Past) → run_of self.old ≡ Some past → OnOk result (IsNext self.old self.new past event) }
         ensures cause { (past : Past) → run_of self.old ≡ Some past → IfErr result (IsRefusedFor self.old past.state event) }
     {

@@ -1,6 +1,6 @@
 //! The nodes at the start.
 
-ghost use Rattle.std.specs.Prelude.{◌≡◌, ◌≤◌, map, length, sum_by, IfOk};
+ghost use Rattle.std.specs.Prelude.{◌≡◌, ◌≤◌, map, length, sum_by, All, IfOk};
 ghost use Rattle.op_model.specs.Programs.{ArePrograms};
 ghost use Rattle.machine.specs.Faces.{face_of, dir_of};
 ghost use Rattle.machine.specs.Starts.{AreFresh, AreNew};
@@ -23,6 +23,13 @@ pub(crate) fn count_ops(programs: &[Program]) -> u64
     count
 }
 
+/// The directory of a node says what holds of each one of its kind.
+pub(crate) fn told_dir<D: Sharers>(node: &MagicNode<D>)
+    ensures { D.is_sound node.now.dir }
+{
+    let _lines = node.home().dir().lines();
+}
+
 /// A node for each program, in the same order, with the directory at the same place.
 pub(crate) fn new_nodes<D: Sharers>(
     alloc: Global,
@@ -34,6 +41,7 @@ pub(crate) fn new_nodes<D: Sharers>(
     requires dirs { AreFresh cfg (map D.directory dirs.items) }
     ensures faces { IfOk result (λ nodes. AreNew cfg programs.items (map D.directory dirs.items) (map face_of nodes.items)) }
     ensures dirs { IfOk result (λ nodes. map dir_of nodes.items ≡ dirs.items) }
+    ensures sound { IfOk result (λ nodes. All D.is_sound (map dir_of nodes.items)) }
 {
     let Ok(mut nodes) = Vec::with_capacity(alloc, cfg.nodes() as usize) else {
         return Err(NoMemory);
@@ -44,6 +52,7 @@ pub(crate) fn new_nodes<D: Sharers>(
             unreachable!();
         };
         let node = MagicNode::new(alloc, cfg, nodes.len() as u32, program, dir)?;
+        told_dir(&node);
         nodes.push_reserved(node);
     }
     Ok(nodes)

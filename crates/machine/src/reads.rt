@@ -1,33 +1,21 @@
 //! What a schedule reads of the state of the machine, without a scan.
 
-ghost use Rattle.std.specs.Prelude.{◌≡◌, ◌<◌, Some, IfSome, filter, is_some, option_map, slice_get};
+ghost use Rattle.std.specs.Prelude.{◌≡◌, ◌<◌, Some, IfSome, filter, is_some, slice_get};
 ghost use Rattle.line_map.specs.Sizes.{all_lines};
 ghost use Rattle.op_model.specs.Lines.{state_of};
 ghost use Rattle.op_model.specs.Shares.{copy_of};
 ghost use Rattle.op_model.specs.Events.Node.{fits_victim};
 ghost use Rattle.op_model.specs.Run.Runs.{Past};
-ghost use Rattle.op_model.specs.Run.Schedules.{first_busy as first_busy_of, least_victim as least_victim_of, other_in_set as other_of_set};
+ghost use Rattle.op_model.specs.Run.Schedules.{least_victim as least_victim_of, other_in_set as other_of_set};
 ghost use Rattle.op_model.specs.Run.Seeded.{free_links as free_links_of, lines_of};
-ghost use Rattle.lane_queues.specs.FirstBusy.{lane_named};
 ghost use Rattle.machine.specs.Machines.{run_of};
 ghost use Rattle.op_model.specs.Programs.{programs_of};
-ghost use Rattle.machine.specs.Reads.{first_asks, is_missing};
 
 use crate::machine::Machine1;
-use dir_header::Sharers;
+use dir_header::{Sharers, Victims};
 use lane_queues::Lanes;
 use magic_node::MagicNode;
-use op_model::{Cause, Class, CopyState, Event, Op};
-
-// Whether a line to call in is missing.
-fn lacks_victim(answer: Result<(), Cause>) -> bool
-    ensures { result ≡ is_missing answer }
-{
-    match answer {
-        Err(Cause::VictimMissing) => true,
-        _ => false,
-    }
-}
+use op_model::{CopyState, Op};
 
 impl<D: Sharers, Q: Lanes> Machine1<D, Q> {
     /// How many operations of a node are done.
@@ -76,28 +64,6 @@ impl<D: Sharers, Q: Lanes> Machine1<D, Q> {
         }
     }
 
-    /// The first lane that isn't empty, by sender, then by taker, then requests before replies.
-    pub fn first_busy(&self) -> Option<(u32, u32, Class)>
-        ensures { (past : Past) → run_of self.now ≡ Some past → option_map lane_named result ≡ first_busy_of self.now.sizes past.state }
-    {
-        self.lanes().first_busy()
-    }
-
-    /// Whether the first message of a lane asks for a line to call in.
-    pub fn asks_victim(&self, src: u32, dst: u32, class: Class) -> bool
-        requires from { src < self.now.sizes.nodes }
-        requires to { dst < self.now.sizes.nodes }
-        ensures { (past : Past) → run_of self.now ≡ Some past → result ≡ first_asks self.now.charge self.now.sizes past.state src dst (past.state.lane src dst class) }
-    {
-        let event = Event::Take {
-            src,
-            dst,
-            class,
-            victim: None,
-        };
-        lacks_victim(self.enabled(&event))
-    }
-
     /// The least line of a home that may be called in.
     pub fn least_victim(&self, n: u32) -> Option<u32>
         requires { n < self.now.sizes.nodes }
@@ -106,12 +72,12 @@ impl<D: Sharers, Q: Lanes> Machine1<D, Q> {
         self.node(n).home().least_victim()
     }
 
-    /// The line at a place, counted from 0, among all of a home that may be called in, in increasing order.
-    pub fn victim_at(&self, n: u32, i: u32) -> Option<u32>
+    /// The lines of a home that may be called in, each handed out once, in increasing order. They are those of the machine as it stands at this call.
+    pub fn victims(&self, n: u32) -> Victims
         requires { n < self.now.sizes.nodes }
-        ensures { (past : Past) → run_of self.now ≡ Some past → result ≡ slice_get (filter (fits_victim self.now.charge self.now.sizes n (past.state.share n)) (lines_of self.now.sizes n)) i }
+        ensures { (past : Past) → run_of self.now ≡ Some past → result ≡ filter (fits_victim self.now.charge self.now.sizes n (past.state.share n)) (lines_of self.now.sizes n) }
     {
-        self.node(n).home().victim_at(i)
+        self.node(n).home().victims()
     }
 
     /// How many links of a home are free.

@@ -1,10 +1,10 @@
 //! All nodes and lanes of the machine, with the journal of their events.
 
-ghost use Rattle.std.specs.Prelude.{◌≡◌, ◌∷◌, ◌++◌, [], map, OnOk, OnErr, IfErr};
+ghost use Rattle.std.specs.Prelude.{◌≡◌, ◌∷◌, ◌++◌, [], map, All, OnOk, OnErr, IfErr};
 ghost use Rattle.machine.specs.Kept.{charge_in, programs_in};
 ghost use Rattle.machine.specs.Journals.{IsKeptWith};
 ghost use Rattle.op_model.specs.Run.Machines.{IsEventOf};
-ghost use Rattle.machine.specs.Faces.{face_of};
+ghost use Rattle.machine.specs.Faces.{face_of, dir_of};
 ghost use Rattle.machine.specs.Answers.{IsCauseIn};
 
 use crate::acts::do_event;
@@ -36,9 +36,11 @@ impl<D: Sharers, Q: Lanes> Run<D, Q> {
     /// Makes an event, or refuses it for its first cause. A refusal, and want of memory, change nothing.
     pub(crate) fn apply(&mut self, event: Event) -> Result<(), ApplyError>
         requires kept { IsKeptWith self.old.cfg (map face_of self.old.nodes.items) (Q.meaning self.old.lanes) self.old.journal self.old.out }
+        requires dirs { All D.is_sound (map dir_of self.old.nodes.items) }
         requires of_machine { IsEventOf self.old.cfg event }
         ensures cfg { self.new.cfg ≡ self.old.cfg }
         ensures kept { IsKeptWith self.new.cfg (map face_of self.new.nodes.items) (Q.meaning self.new.lanes) self.new.journal self.new.out }
+        ensures dirs { All D.is_sound (map dir_of self.new.nodes.items) }
         ensures programs { programs_in (map face_of self.new.nodes.items) ≡ programs_in (map face_of self.old.nodes.items) }
         ensures charge { charge_in (map face_of self.new.nodes.items) ≡ charge_in (map face_of self.old.nodes.items) }
         ensures ok { OnOk result (self.new.journal.events.items ≡ self.old.journal.events.items ++ event ∷ []) }

@@ -8,9 +8,10 @@ ghost use Rattle.op_model.specs.Run.Schedules.{first_busy as first_busy_of, leas
 ghost use Rattle.op_model.specs.Run.Seeded.{free_links, low_water};
 ghost use Rattle.op_model.specs.Run.Machines.{MachineRun, IsRunning, effect_on, IsApplied, IsEnabled, IsEventOf};
 ghost use Rattle.machine_face.specs.Runs.{IsRefused};
-ghost use Rattle.machine_face.specs.Reads.{IsLane, victims, next_busy as next_busy_of};
+ghost use Rattle.machine_face.specs.Reads.{IsLane, victims as victims_of, next_busy as next_busy_of};
 
 use crate::refusal::ApplyError;
+use dir_header::Victims;
 use line_map::Machine;
 use op_model::{Cause, Class, CopyState, Event, Op};
 use std::alloc::Global;
@@ -85,10 +86,10 @@ pub trait MachineFace {
         requires { home < (meaning self.now).sizes.nodes }
         ensures { result ≡ least_victim_of (meaning self.now).charge (meaning self.now).sizes (meaning self.now).past.state home };
 
-    /// The line at a place among those of a home that may be called in, in increasing order, counted from 0.
-    fn victim_at(&self, home: u32, i: u32) -> Option<u32>
+    /// The lines of a home that may be called in, each handed out once, in increasing order. They are those of the machine as it stands at this call.
+    fn victims(&self, home: u32) -> Victims
         requires { home < (meaning self.now).sizes.nodes }
-        ensures { result ≡ slice_get (victims (meaning self.now) home) i };
+        ensures { result ≡ victims_of (meaning self.now) home };
 
     /// Whether the free links of a home are below its low water: an eighth of its links.
     fn is_low(&self, home: u32) -> bool

@@ -9,6 +9,7 @@ use Rattle.op_model.specs.declared.operations.Op.{Op}
 use Rattle.op_model.specs.declared.errors.NoMemory.{NoMemory}
 use Rattle.op_model.specs.Programs.{IsOpOf, IsProgramOf, ArePrograms}
 use Rattle.op_model.specs.Shares.{Linked}
+use Rattle.op_model.proofs.Plain.{map-replicate}
 use Rattle.dir_header.specs.Sharers.{Directory}
 use Rattle.sharer_dir.specs.Linked.{LinkedView, first_linked, linked_directory}
 use Rattle.machine.specs.Starts.{charge_of, IsFreshOf, AreFresh}
@@ -58,10 +59,6 @@ programs-set sizes programs node old new are there is = record {
     go q program false test at =
         let other : q ≢ node = grind (arith, nat_tests) in
         are.each q program (sym (slice_get-set_other programs node q new other) ∙ at)
-
-map-replicate : {A B : Type 0} (f : A → B) (n : ℕ) (x : A) → map f (replicate n x) ≡ replicate n (f x)
-map-replicate f zero x = refl
-map-replicate f (suc n) x = ap (λ xs. f x ∷ xs) (map-replicate f n x)
 
 charges : (n : ℕ) (dir : Directory) → dir.charge ≡ Linked → charge_of (replicate n dir) ≡ Linked
 charges zero dir is = refl

@@ -1,7 +1,7 @@
 -- The rows of messages that serve nothing, and of a Nak.
-use Rattle.std.proofs.Common.{◌≡◌, ℕ, Bool, true, false, cond, not, ◌&&◌, ◌==◌, List, [], Option, Some, None, refl, sym, ap, ◌∙◌, unwrap_or, arith}
+use Rattle.std.proofs.Common.{◌≡◌, ℕ, Bool, true, false, cond, not, ◌&&◌, ◌==◌, List, [], Option, Some, None, refl, sym, ap, ◌∙◌, unwrap_or}
 use Rattle.std.specs.Prelude.{is_some}
-use Rattle.std.proofs.lemmas.Bool.Decides.{nat_tests}
+use Rattle.std.proofs.lemmas.Bool.{eqb-true}
 use Rattle.std.specs.FinMap as fin
 use Rattle.line_map.specs.Sizes.{Sizes, line_of, home_of}
 use Rattle.line_map.specs.declared.body.Body.{Body}
@@ -11,10 +11,11 @@ use Rattle.op_model.specs.declared.messages.NakCause.{NakCause}
 use Rattle.op_model.specs.Messages.{msg_content}
 use Rattle.op_model.specs.declared.state.Want.{Want}
 use Rattle.op_model.specs.Operations.{Words}
-use Rattle.op_model.specs.Lines.{Copy, Header, LineShare, NoService, Outcome, Room, is_idle, is_pending}
+use Rattle.op_model.specs.Lines.{Copy, LineShare, NoService, Outcome, Room, is_idle, is_pending, is_outstanding}
 use Rattle.op_model.specs.Shares.{Share, first_header, copy_of, header_of, line_share, want_on, want_after, header_in, Copies, copy_in, Headers}
 use Rattle.op_model.specs.Tables.Home.{on_getx, on_rpl, no_other}
-use Rattle.op_model.specs.Tables.Remote.{on_nak, on_put, on_putx, waits_any}
+use Rattle.op_model.specs.Tables.Remote.{on_nak, on_put, on_putx}
+use Rattle.op_model.proofs.Plain.{some_held}
 use Rattle.line_invariant.proofs.Basics.{if-either}
 use Rattle.cpu_cache.specs.Processors.{ProcView}
 use Rattle.msg_words.specs.SendList.{SendList}
@@ -42,15 +43,11 @@ pub rpl-quiet : (src : ℕ) (share : LineShare) → IsQuiet (on_rpl src share)
 unfolding on_rpl
 rpl-quiet src share = if-either IsQuiet (is_idle share.header.wait && not share.header.dirty) _ _ (λ _. (refl, refl)) (λ _. (refl, refl))
 
-has-header : (o : Option Header) (first : Header) → is_some o ≡ true → o ≡ Some (unwrap_or o first)
-has-header None first e = cc
-has-header (Some header) first e = refl
-
-some-on : (sizes : Sizes) (wanted : Option Want) (line : ℕ) → waits_any (want_on sizes wanted line) ≡ true → (w : Want) × (wanted ≡ Some w)
+some-on : (sizes : Sizes) (wanted : Option Want) (line : ℕ) → is_outstanding (want_on sizes wanted line) ≡ true → (w : Want) × (wanted ≡ Some w)
 some-on sizes None line e = cc
 some-on sizes (Some w) line e = (w, refl)
 
-pub nak-does : (sizes : Sizes) (node line : ℕ) (proc proc' : ProcView) (copies : Copies) (headers : Headers) (out : SendList) → AreCopies copies → AreHeaders sizes node headers → waits_any (want_on sizes proc.want line) ≡ true → proc' ≡ record proc { want = None } →
+pub nak-does : (sizes : Sizes) (node line : ℕ) (proc proc' : ProcView) (copies : Copies) (headers : Headers) (out : SendList) → AreCopies copies → AreHeaders sizes node headers → is_outstanding (want_on sizes proc.want line) ≡ true → proc' ≡ record proc { want = None } →
     DoesRow sizes node (share_of proc copies headers) (share_of proc' copies headers) out out line on_nak
 unfolding on_nak copy_of header_in
 nak-does sizes node line proc proc' copies headers out held has waits proc-is = record {
@@ -60,11 +57,8 @@ nak-does sizes node line proc proc' copies headers out held has waits proc-is = 
   sends = sent-none out;
 }
   where
-    same : (a b : ℕ) → (a == b) ≡ true → b ≡ a
-    same a b e = grind (arith, nat_tests)
-
     kept : (b : Bool) → (node == home_of sizes line) ≡ b → headers ≡ cond b (fin.insert headers line (unwrap_or (fin.get headers line) (first_header sizes))) headers
-    kept true e = sym (put-same headers line (unwrap_or (fin.get headers line) (first_header sizes)) (has-header (fin.get headers line) (first_header sizes) (has line (same node (home_of sizes line) e))))
+    kept true e = sym (put-same headers line (unwrap_or (fin.get headers line) (first_header sizes)) (some_held (fin.get headers line) (first_header sizes) (has line (sym (eqb-true node (home_of sizes line) e)))))
     kept false e = refl
 
 -- these send nothing
@@ -85,7 +79,7 @@ putx-sends b words share = by share.want
     by None = refl
     by (Some w) = refl
 
-pub some-wanted : (sizes : Sizes) (wanted : Option Want) (line : ℕ) → waits_any (want_on sizes wanted line) ≡ true → is_some wanted ≡ true
+pub some-wanted : (sizes : Sizes) (wanted : Option Want) (line : ℕ) → is_outstanding (want_on sizes wanted line) ≡ true → is_some wanted ≡ true
 some-wanted sizes None line e = cc
 some-wanted sizes (Some w) line e = refl
 

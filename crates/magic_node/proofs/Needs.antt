@@ -1,6 +1,6 @@
 -- What each handler needs, from the row that its message meets and from what a node keeps.
 use Rattle.std.proofs.Common.{◌≡◌, ◌≢◌, ℕ, ◌<◌, Bool, true, false, not, ◌&&◌, ◌||◌, ◌==◌, Some, None, refl, sym, ap, ◌∙◌, subst, arith}
-use Rattle.std.proofs.lemmas.Bool.Decides.{nat_tests}
+use Rattle.std.proofs.lemmas.Bool.{and_parts, not-true, eqb-true, eq-eqb}
 use Rattle.line_map.specs.Sizes.{home_of}
 use Rattle.op_model.specs.declared.messages.Msg.TheVariants as msg
 use Rattle.op_model.specs.declared.messages.NakCause.{NakCause}
@@ -8,13 +8,14 @@ use Rattle.op_model.specs.declared.state.Wait.{Wait}
 use Rattle.op_model.specs.declared.state.Wait.TheVariants.{Idle, Invalidate, ForwardGet, ForwardGetX}
 use Rattle.op_model.specs.Nodes.{listed}
 use Rattle.op_model.specs.Operations.{Words}
-use Rattle.op_model.specs.Lines.{Header, LineShare, is_pending}
+use Rattle.op_model.specs.Lines.{Header, LineShare, is_pending, is_outstanding}
 use Rattle.op_model.specs.OwnPart.{IsOwnLine, IsOwnWait}
 use Rattle.op_model.specs.Shares.{Share, copy_of, header_of, is_set_empty, line_share, want_on, header_in}
 use Rattle.op_model.specs.Tables.Home.{requester_of}
-use Rattle.op_model.specs.Tables.Remote.{meets, asks_well, is_invalidate, is_forward, is_forward_get, is_forward_getx, gets_elsewhere, getxs_elsewhere, waits_load, waits_write, waits_any}
+use Rattle.op_model.specs.Tables.Remote.{meets, asks_well, is_invalidate, is_forward, is_forward_get, is_forward_getx, gets_elsewhere, getxs_elsewhere, waits_load, waits_write}
 use Rattle.op_model.specs.Events.Node.{meets_row}
-use Rattle.own_part.proofs.Basics.{both, all3, all4, is-same, turned}
+use Rattle.op_model.proofs.Plain.{three_parts}
+use Rattle.own_part.proofs.Basics.{all4}
 use Rattle.cpu_cache.specs.Caches.{CacheView}
 use Rattle.cpu_cache.specs.Processors.{ProcView}
 use Rattle.dir_header.specs.HomeSides.{HomeView, header_at}
@@ -72,7 +73,7 @@ module _ {D : Type 0} (number : ℕ) (proc : ProcView) (cache : CacheView) (home
   at = home_of home.sizes line
 
   here : (number == at) ≡ true → at ≡ number
-  here e = sym (is-same number at e)
+  here e = sym (eqb-true number at e)
 
   -- a line that waits for an owner
   module _ (own : at ≡ number) (waits : is_forward h.wait ≡ true) where
@@ -82,11 +83,11 @@ module _ {D : Type 0} (number : ℕ) (proc : ProcView) (cache : CacheView) (home
 
   pub get-met : meets_row home.sizes number share src (msg.Get line) ≡ true → at ≡ number
   unfolding meets_row meets header_in
-  get-met e = here (all3 (number == at) (not (src == at)) (asks_well src h) e).0
+  get-met e = here (three_parts (number == at) (not (src == at)) (asks_well src h) e).0
 
   pub getx-met : meets_row home.sizes number share src (msg.GetX line) ≡ true → at ≡ number
   unfolding meets_row meets header_in
-  getx-met e = here (all3 (number == at) (not (src == at)) (asks_well src h) e).0
+  getx-met e = here (three_parts (number == at) (not (src == at)) (asks_well src h) e).0
 
   pub rpl-met : meets_row home.sizes number share src (msg.Rpl line) ≡ true → at ≡ number
   unfolding meets_row meets
@@ -94,29 +95,26 @@ module _ {D : Type 0} (number : ℕ) (proc : ProcView) (cache : CacheView) (home
 
   pub wb-met : (words : Words) → meets_row home.sizes number share src (msg.Wb line words) ≡ true → (at ≡ number) × (is_invalidate h.wait ≡ false)
   unfolding meets_row meets header_in
-  wb-met words e = let m = all4 (number == at) h.dirty (not h.local) (not (is_invalidate h.wait)) e in (here m.0, sym (calm-is h.wait) ∙ turned (is_invalidate h.wait) m.3)
+  wb-met words e = let m = all4 (number == at) h.dirty (not h.local) (not (is_invalidate h.wait)) e in (here m.0, sym (calm-is h.wait) ∙ not-true (is_invalidate h.wait) m.3)
 
   pub inv_ack-met : meets_row home.sizes number share src (msg.InvAck line) ≡ true → (at ≡ number) × (is_invalidate h.wait ≡ true) × (listed h.list src ≡ true)
   unfolding meets_row meets header_in
-  inv_ack-met e = let m = all3 (number == at) (is_invalidate h.wait) (listed h.list src) e in (here m.0, sym (calm-is h.wait) ∙ m.1, m.2)
+  inv_ack-met e = let m = three_parts (number == at) (is_invalidate h.wait) (listed h.list src) e in (here m.0, sym (calm-is h.wait) ∙ m.1, m.2)
 
   pub shwb-met : (words : Words) → meets_row home.sizes number share src (msg.ShWb line words) ≡ true → (at ≡ number) × (is_forward h.wait ≡ true)
   unfolding meets_row meets header_in
-  shwb-met words e = let m = both (number == at) (gets_elsewhere at h.wait) e in (here m.0, gets-forward at h.wait m.1)
+  shwb-met words e = let m = and_parts (number == at) (gets_elsewhere at h.wait) e in (here m.0, gets-forward at h.wait m.1)
 
   pub fack-met : meets_row home.sizes number share src (msg.FAck line) ≡ true → (at ≡ number) × (is_forward h.wait ≡ true)
   unfolding meets_row meets header_in
-  fack-met e = let m = both (number == at) (getxs_elsewhere at h.wait) e in (here m.0, getxs-forward at h.wait m.1)
+  fack-met e = let m = and_parts (number == at) (getxs_elsewhere at h.wait) e in (here m.0, getxs-forward at h.wait m.1)
 
   pub nakc-met : meets_row home.sizes number share src (msg.Nakc line) ≡ true → (at ≡ number) × (is_forward h.wait ≡ true)
   unfolding meets_row meets header_in
-  nakc-met e = let m = both (number == at) (is_forward h.wait) e in (here m.0, m.1)
+  nakc-met e = let m = and_parts (number == at) (is_forward h.wait) e in (here m.0, m.1)
 
   away-met : not (number == at) ≡ true → at ≢ number
-  away-met e same = let t : (number == at) ≡ true = sym' number at same in let f = turned (number == at) e in let d : true ≡ false = sym t ∙ f in cc
-    where
-      sym' : (a b : ℕ) → b ≡ a → (a == b) ≡ true
-      sym' a b e = grind (arith, nat_tests)
+  away-met e same = let t : (number == at) ≡ true = eq-eqb number at (sym same) in let f = not-true (number == at) e in let d : true ≡ false = sym t ∙ f in cc
 
   pub fwd_get-met : (req : ℕ) → meets_row home.sizes number share src (msg.FwdGet line req) ≡ true → at ≢ number
   unfolding meets_row meets
@@ -132,11 +130,8 @@ module _ {D : Type 0} (number : ℕ) (proc : ProcView) (cache : CacheView) (home
 
   -- where the home itself has asked, it waits for the owner
   either-home : (b : Bool) → (not (number == at) || b) ≡ true → at ≡ number → b ≡ true
-  either-home b e same = by (number == at) (test number at same) e
+  either-home b e same = by (number == at) (eq-eqb number at (sym same)) e
     where
-      test : (m n : ℕ) → n ≡ m → (m == n) ≡ true
-      test m n e = grind (arith, nat_tests)
-
       by : (c : Bool) → c ≡ true → (not c || b) ≡ true → b ≡ true
       by true t e = e
       by false t e = cc
@@ -144,15 +139,15 @@ module _ {D : Type 0} (number : ℕ) (proc : ProcView) (cache : CacheView) (home
   pub put-met : (words : Words) → meets_row home.sizes number share src (msg.Put line words) ≡ true → (waits_load (want_on home.sizes proc.want line) ≡ true) × (is_set_empty home.sizes share line ≡ true) × (at ≡ number → is_forward h.wait ≡ true)
   unfolding meets_row meets header_in
   put-met words e =
-      let m = all3 (waits_load (want_on home.sizes proc.want line)) (is_set_empty home.sizes share line) (not (number == at) || is_forward_get at h.wait) e in
+      let m = three_parts (waits_load (want_on home.sizes proc.want line)) (is_set_empty home.sizes share line) (not (number == at) || is_forward_get at h.wait) e in
       (m.0, m.1, λ own. get-forward at h.wait (either-home (is_forward_get at h.wait) m.2 own))
 
   pub putx-met : (words : Words) → meets_row home.sizes number share src (msg.PutX line words) ≡ true → (waits_write (want_on home.sizes proc.want line) ≡ true) × (is_set_empty home.sizes share line ≡ true) × (at ≡ number → is_forward h.wait ≡ true)
   unfolding meets_row meets header_in
   putx-met words e =
-      let m = all3 (waits_write (want_on home.sizes proc.want line)) (is_set_empty home.sizes share line) (not (number == at) || is_forward_getx at h.wait) e in
+      let m = three_parts (waits_write (want_on home.sizes proc.want line)) (is_set_empty home.sizes share line) (not (number == at) || is_forward_getx at h.wait) e in
       (m.0, m.1, λ own. getx-forward at h.wait (either-home (is_forward_getx at h.wait) m.2 own))
 
-  pub nak-met : (cause : NakCause) → meets_row home.sizes number share src (msg.Nak line cause) ≡ true → waits_any (want_on home.sizes proc.want line) ≡ true
+  pub nak-met : (cause : NakCause) → meets_row home.sizes number share src (msg.Nak line cause) ≡ true → is_outstanding (want_on home.sizes proc.want line) ≡ true
   unfolding meets_row meets header_in
-  nak-met cause e = (both (waits_any (want_on home.sizes proc.want line)) _ e).0
+  nak-met cause e = (and_parts (is_outstanding (want_on home.sizes proc.want line)) _ e).0

@@ -1,6 +1,7 @@
 -- A message's act, told by the row that it meets and by the line that is then called in.
-use Rattle.std.proofs.Common.{◌≡◌, ℕ, ◌<◌, ◌≤◌, ◌+◌, length-append, subst, Bool, true, false, cond, not, ◌&&◌, ◌==◌, List, ◌++◌, append_assoc, length, Option, Some, None, Result, Ok, Err, refl, sym, ap, ◌∙◌, arith}
+use Rattle.std.proofs.Common.{◌≡◌, ℕ, ◌<◌, ◌≤◌, ◌+◌, length-append, subst, Bool, true, false, cond, not, ◌&&◌, ◌==◌, List, ◌++◌, append_assoc, length, Some, None, Result, Ok, Err, refl, sym, ap, ◌∙◌, arith}
 use Rattle.std.specs.Prelude.{is_err, MatchResult}
+use Rattle.std.proofs.lemmas.Bool.{cond-true, not-false, eqb-true}
 use Rattle.std.proofs.lemmas.Bool.Decides.{nat_tests}
 use Rattle.std.proofs.lemmas.Nat.{le-div}
 use Rattle.line_map.specs.Sizes.{Sizes, all_lines, home_of}
@@ -24,36 +25,10 @@ use Rattle.std.specs.FinMap as fin
 use Rattle.node_share.specs.Parts.{row_at, sent, AreHeaders, DoesRow, HasRoom}
 use Rattle.node_share.proofs.Homes.{put-same}
 use Rattle.reclaim.proofs.Called.{calls-in}
-use Rattle.std.specs.Prelude.{is_some}
 use Rattle.std.proofs.Common.{unwrap_or}
+use Rattle.op_model.proofs.Plain.{second_of_four, last_of_four, parts_but_last, last_two_parts, some_held, err-ok}
 use Rattle.cpu_cache.specs.Effects.{effect_of}
 use Rattle.node_share.specs.Effects.{Acts}
-
-when : {A : Type 0} (b : Bool) (x y : A) → b ≡ true → cond b x y ≡ x
-when true x y e = refl
-when false x y e = cc
-
-never : (pending lacks waits full : Bool) → (not pending && lacks && not waits && not full) ≡ true → lacks ≡ false → ⊥
-never pending lacks waits full e f = grind arith
-
-not-full : (pending lacks waits full : Bool) → (not pending && lacks && not waits && not full) ≡ true → full ≡ false
-not-full pending lacks waits full e = grind arith
-
-first3 : (a b c : Bool) → (a && b && not c) ≡ true → (a ≡ true) × (b ≡ true) × (c ≡ false)
-first3 a b c e = (grind arith, grind arith, grind arith)
-
-last2 : (a b c : Bool) → (a && b && c) ≡ true → (b ≡ true) × (c ≡ true)
-last2 a b c e = (grind arith, grind arith)
-
-turned : (i : Bool) → not i ≡ false → i ≡ true
-turned i e = grind arith
-
-has-header : (o : Option Header) (first : Header) → is_some o ≡ true → o ≡ Some (unwrap_or o first)
-has-header None first e = cc
-has-header (Some header) first e = refl
-
-same : (a b : ℕ) → (a == b) ≡ true → b ≡ a
-same a b e = grind (arith, nat_tests)
 
 -- a Get that asks for a victim is refused with one message, and leaves the share of its line
 abbrev pub IsRefused : ℕ → LineShare → Outcome → Type 0
@@ -65,7 +40,7 @@ refused node home src line room Get s get wants =
     if-either (IsRefused line s) (is_pending s.header) _ _ (λ _. (refl, refl)) (λ _.
     (if-either (IsRefused line s) (lacks_link room src s.header && room.link_pending) _ _ (λ _. (refl, refl)) (λ _.
     (if-either (IsRefused line s) (lacks_link room src s.header && room.full) _ _ (λ _. (refl, refl)) (λ _.
-    (if-either (IsRefused line s) (lacks_link room src s.header) _ _ (λ _. (refl, refl)) (λ has. absurd (never (is_pending s.header) (lacks_link room src s.header) room.link_pending room.full wants has))))))))
+    (if-either (IsRefused line s) (lacks_link room src s.header) _ _ (λ _. (refl, refl)) (λ has. absurd (second_of_four (is_pending s.header) (lacks_link room src s.header) room.link_pending room.full wants has))))))))
 refused node home src line room GetX s get wants = cc
 refused node home src line room (FwdGet r) s get wants = cc
 refused node home src line room (FwdGetX r) s get wants = cc
@@ -89,7 +64,7 @@ module _ (charge : Charge) (sizes : Sizes) (node : ℕ) (program : List Op) (pla
 
   is-row : meets_row sizes node share src m ≡ true → taken ≡ row_at sizes node share (msg_line m) row
   unfolding on_message meets_row
-  is-row met = ap (by_row sizes node share (msg_line m)) (when (meets node (home_of sizes (msg_line m)) src (is_set_empty sizes share (msg_line m)) (msg_content m) (line_share sizes share (msg_line m))) _ _ met)
+  is-row met = ap (by_row sizes node share (msg_line m)) (cond-true (meets node (home_of sizes (msg_line m)) src (is_set_empty sizes share (msg_line m)) (msg_content m) (line_share sizes share (msg_line m))) _ _ met)
 
   pub takes : (new : Share) (out out' : SendList) (effect : Effect) → meets_row sizes node share src m ≡ true → asks_victim charge sizes node share src m ≡ false → DoesRow sizes node share new out out' (msg_line m) row →
       effect ≡ effect_of node program place brought (row_at sizes node share (msg_line m) row) → Acts node program place brought (local charge sizes node program share (TakeFrom src m None)) new out out' effect
@@ -167,7 +142,7 @@ module _ (charge : Charge) (sizes : Sizes) (node : ℕ) (program : List Op) (pla
   module _ (asks : asks_victim charge sizes node share src m ≡ true) where
     is-refused : IsRefused (msg_line m) (line_share sizes share (msg_line m)) (row (line_share sizes share (msg_line m)))
     is-refused =
-        let want = last2 (meets_row sizes node share src m) (is_get (msg_content m)) (wants_victim (room_of charge sizes share) src (line_share sizes share (msg_line m)).header) asks in
+        let want = last_two_parts (meets_row sizes node share src m) (is_get (msg_content m)) (wants_victim (room_of charge sizes share) src (line_share sizes share (msg_line m)).header) asks in
         refused node (home_of sizes (msg_line m)) src (msg_line m) (room_of charge sizes share) (msg_content m) (line_share sizes share (msg_line m)) want.0 want.1
 
     -- the refusal takes one place
@@ -185,7 +160,7 @@ module _ (charge : Charge) (sizes : Sizes) (node : ℕ) (program : List Op) (pla
         ap (λ (s : Share). s.headers) does.share ∙ ap (λ (s : LineShare). cond (node == home_of sizes (msg_line m)) (fin.insert share.headers (msg_line m) s.header) share.headers) is-refused.0 ∙ kept (node == home_of sizes (msg_line m)) refl
       where
         kept : (b : Bool) → (node == home_of sizes (msg_line m)) ≡ b → cond b (fin.insert share.headers (msg_line m) (unwrap_or (fin.get share.headers (msg_line m)) (first_header sizes))) share.headers ≡ share.headers
-        kept true e = put-same share.headers (msg_line m) (unwrap_or (fin.get share.headers (msg_line m)) (first_header sizes)) (has-header (fin.get share.headers (msg_line m)) (first_header sizes) (has (msg_line m) (same node (home_of sizes (msg_line m)) e)))
+        kept true e = put-same share.headers (msg_line m) (unwrap_or (fin.get share.headers (msg_line m)) (first_header sizes)) (some_held (fin.get share.headers (msg_line m)) (first_header sizes) (has (msg_line m) (sym (eqb-true node (home_of sizes (msg_line m)) e))))
         kept false e = refl
 
     -- so that the line can be called in
@@ -193,26 +168,18 @@ module _ (charge : Charge) (sizes : Sizes) (node : ℕ) (program : List Op) (pla
     unfolding header_in wants_victim
     calls-victim g mid fit stay =
         let bare : Headers → Share = λ h. record mid { headers = h } in
-        let wants = last2 (meets_row sizes node share src m) (is_get (msg_content m)) (wants_victim (room_of charge sizes share) src (line_share sizes share (msg_line m)).header) asks in
-        let fits = first3 (home_of sizes g == node) (holds_link (room_of charge sizes share) (header_of sizes share g)) (is_pending (header_of sizes share g)) fit in
+        let wants = last_two_parts (meets_row sizes node share src m) (is_get (msg_content m)) (wants_victim (room_of charge sizes share) src (line_share sizes share (msg_line m)).header) asks in
+        let fits = parts_but_last (home_of sizes g == node) (holds_link (room_of charge sizes share) (header_of sizes share g)) (is_pending (header_of sizes share g)) fit in
         calls-in (room_of charge sizes mid) (line_share sizes mid g)
         (ap (λ h. holds_link (room_of charge sizes (bare h)) (header_of sizes (bare h) g)) stay ∙ fits.1)
-        (ap (λ h. is_idle (header_of sizes (bare h) g).wait) stay ∙ turned (is_idle (header_of sizes share g).wait) fits.2)
-        (ap (λ h. (room_of charge sizes (bare h)).full) stay ∙ not-full (is_pending (line_share sizes share (msg_line m)).header) (lacks_link (room_of charge sizes share) src (line_share sizes share (msg_line m)).header) (room_of charge sizes share).link_pending (room_of charge sizes share).full wants.1)
-
--- what is refused is refused for this cause
-pub refuses : {A : Type 0} (act : Result A Cause) (cause : Cause) → Err cause ≡ permit act → act ≡ Err cause
-refuses (Ok done) cause e = cc
-refuses (Err other) cause e = cc
+        (ap (λ h. is_idle (header_of sizes (bare h) g).wait) stay ∙ not-false (is_idle (header_of sizes share g).wait) fits.2)
+        (ap (λ h. (room_of charge sizes (bare h)).full) stay ∙ last_of_four (is_pending (line_share sizes share (msg_line m)).header) (lacks_link (room_of charge sizes share) src (line_share sizes share (msg_line m)).header) (room_of charge sizes share).link_pending (room_of charge sizes share).full wants.1)
 
 -- a call that is allowed is done
 pub is-done : {A : Type 0} (r : Result A Cause) (room : Room) (header : Header) (s : LineShare) → s.header ≡ header → reclaim room s ≡ Ok (call_in s) →
     MatchResult r (λ acks. (share : LineShare) → share.header ≡ header → reclaim room share ≡ Ok (call_in share)) (λ cause. (share : LineShare) → share.header ≡ header → reclaim room share ≡ Err cause) → is_err r ≡ true → ⊥
 is-done (Ok a) room header s same allowed m e = cc
-is-done (Err cause) room header s same allowed m e = no-both cause (call_in s) (sym (m s same) ∙ allowed)
-  where
-    no-both : (c : Cause) (o : Outcome) → ◌≡◌ {A = Result Outcome Cause} (Err c) (Ok o) → ⊥
-    no-both c o e = cc
+is-done (Err cause) room header s same allowed m e = err-ok cause (call_in s) (sym (m s same) ∙ allowed)
 
 -- whether a line fits as a victim
 pub far : (sizes : Sizes) (node line : ℕ) → 0 < sizes.lines → node < sizes.nodes → all_lines sizes ≤ line → (home_of sizes line == node) ≡ false
@@ -230,10 +197,4 @@ fit-idle a h i e f = grind arith
 -- a line that fits is of this home
 pub fits-here : (charge : Charge) (sizes : Sizes) (node : ℕ) (share : Share) (g : ℕ) → fits_victim charge sizes node share g ≡ true → home_of sizes g ≡ node
 fits-here charge sizes node share g fit =
-    same' (home_of sizes g) node (first3 (home_of sizes g == node) (holds_link (room_of charge sizes share) (header_of sizes share g)) (is_pending (header_of sizes share g)) fit).0
-  where
-    same' : (a b : ℕ) → (a == b) ≡ true → a ≡ b
-    same' a b e = grind (arith, nat_tests)
-
-pub own-home : (a b : ℕ) → a ≡ b → (a == b) ≡ true
-own-home a b e = grind (arith, nat_tests)
+    eqb-true (home_of sizes g) node (parts_but_last (home_of sizes g == node) (holds_link (room_of charge sizes share) (header_of sizes share g)) (is_pending (header_of sizes share g)) fit).0

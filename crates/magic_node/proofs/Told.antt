@@ -9,6 +9,7 @@ use Rattle.op_model.specs.Lines.{LineShare, NoService, Outcome}
 use Rattle.op_model.specs.Shares.{Charge, Share, header_of, line_share, room_of, Copies}
 use Rattle.op_model.specs.Events.Node.{NodeOutcome, EvictLine, ReclaimLine, bind, by_row, departs, evict_line, local, map_ok, permit}
 use Rattle.op_model.specs.Tables.Processor.{evict, reclaim, call_in}
+use Rattle.op_model.proofs.Plain.{err-ok}
 use Rattle.cpu_cache.specs.Effects.{nothing}
 use Rattle.line_invariant.proofs.Basics.{if-either}
 use Rattle.one_history.proofs.Events.{evict-quiet}
@@ -19,16 +20,13 @@ use Rattle.node_share.specs.Parts.{share_of, row_at, Did, DoesRow}
 use Rattle.node_share.specs.Effects.{Acts}
 use Rattle.node_share.proofs.Wants.{effect-none}
 
-no-error : (o : NodeOutcome) (c : Cause) → ◌≡◌ {A = Result NodeOutcome Cause} (Err c) (Ok o) → ⊥
-no-error o c e = cc
-
 -- an eviction serves nothing
 module _ (sizes : Sizes) (node : ℕ) (share : Share) where
   abbrev Quiet : Result NodeOutcome Cause → Type 0
   Quiet r = (out : NodeOutcome) → r ≡ Ok out → (out.served ≡ NoService) × (out.done ≡ false)
 
   quiet-error : (c : Cause) → Quiet (Err c)
-  quiet-error c out e = absurd (no-error out c e)
+  quiet-error c out e = absurd (err-ok c out e)
 
   quiet-ok : (x : NodeOutcome) → (x.served ≡ NoService) × (x.done ≡ false) → Quiet (Ok x)
   quiet-ok x q out e = let is : x ≡ out = cc in subst (λ y. (y.served ≡ NoService) × (y.done ≡ false)) is q

@@ -2,9 +2,10 @@
 use Rattle.std.specs.Prelude.{◌≡◌, ℕ, List, refl}
 use Rattle.std.specs.Coded.{Coded, code_by, coded×, coded_ℕ, coded_list}
 use Rattle.line_map.specs.Sizes.{Sizes}
+use Rattle.line_map.specs.Codes.{sizes_code}
 use Rattle.op_model.specs.declared.operations.Op.{Op}
 use Rattle.op_model.specs.Shares.{Charge, Share}
-use Rattle.op_model.specs.Codes.{sizes_code, op_code, share_code, charge_code}
+use Rattle.op_model.specs.Codes.{op_code, share_code, charge_code}
 use Rattle.magic_node.specs.Nodes.{MagicView}
 
 abbrev pub magic_code : {D : Type 0} → Coded D → Coded (MagicView D)

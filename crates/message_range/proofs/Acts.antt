@@ -15,7 +15,7 @@ use Rattle.op_model.specs.declared.events.EvictKind.{EvictKind}
 use Rattle.op_model.specs.declared.messages.Msg.{Msg}
 use Rattle.op_model.specs.declared.operations.Op.{Op}
 use Rattle.op_model.specs.Events.Node.{EvictLine, HitNext, Input, IssueNext, NodeOutcome, ReclaimLine, TakeFrom, and_call, asks_victim, bind, by_row, departs, evict_line, fits_victim, hit_next, is_get, is_outstanding, issue_next, local, map_ok, meets_row, messages, take_from, taking, with_next, with_victim}
-use Rattle.op_model.specs.Lines.{Absent, Copy, Exclusive, LineShare, Outcome, Room, Shared, is_empty, is_pending}
+use Rattle.op_model.specs.Lines.{LineShare, Outcome, Room, is_empty, is_pending}
 use Rattle.op_model.specs.Messages.{Content, FAck, FwdGet, FwdGetX, Get, GetX, Inv, InvAck, Nak, Nakc, Put, PutX, Rpl, ShWb, Wb, msg_content, msg_line}
 use Rattle.op_model.specs.MessageWords.{IsMsgOf}
 use Rattle.op_model.specs.Nodes.{count, listed, listings, none}
@@ -24,6 +24,8 @@ use Rattle.op_model.specs.Shares.{Charge, Share, conflicts, copy_of, first_heade
 use Rattle.op_model.specs.Tables.Home.{wants_victim}
 use Rattle.op_model.specs.Tables.Processor.{begin_op, call_in, evict, fits, hit, holds_link, reclaim, serves}
 use Rattle.op_model.specs.Tables.Remote.{on_message}
+use Rattle.op_model.proofs.Plain.{parts_but_last, last_two_parts, err-ok}
+use Rattle.op_model.proofs.Shares.{fits-copy}
 use Rattle.line_invariant.proofs.Basics.{if-either}
 use Rattle.one_history.proofs.Events.{header-kept, refuses}
 use Rattle.node_range.specs.Range.{IsHeaderIn, IsSentIn}
@@ -45,22 +47,13 @@ hit-in : (nodes : ℕ) (op : Op) (s : LineShare) → IsHeaderIn nodes s.header �
 unfolding hit
 hit-in nodes op s h = (h, tt)
 
--- only a copy is evicted
-has-copy : (at_home : Bool) (kind : EvictKind) (copy : Copy) → fits at_home kind copy ≡ true → is_empty copy ≡ false
-has-copy at_home kind Absent e = absurd (cc)
-has-copy at_home kind (Shared words) e = refl
-has-copy at_home kind (Exclusive words) e = refl
-
 pub evicts-copy : (me home : ℕ) (kind : EvictKind) (s : LineShare) (o : Outcome) → evict me home kind s ≡ Ok o → is_empty s.copy ≡ false
 unfolding evict
 evicts-copy me home kind s o =
-    if-either Gives (fits (me == home) kind s.copy) _ _ (λ fit _. has-copy (me == home) kind s.copy fit) (λ _ e. absurd (no-error _ e))
+    if-either Gives (fits (me == home) kind s.copy) _ _ (λ fit _. fits-copy (me == home) kind s.copy fit) (λ _ e. absurd (err-ok _ o e))
   where
     Gives : Result Outcome Cause → Type 0
     Gives r = r ≡ Ok o → is_empty s.copy ≡ false
-
-    no-error : (c : Cause) → ◌≡◌ {A = Result Outcome Cause} (Err c) (Ok o) → ⊥
-    no-error c e = cc
 
 -- a line that holds a link has a header of its own
 kept-header : (sizes : Sizes) (room : Room) (share : Share) (line : ℕ) → holds_link room (header_of sizes share line) ≡ true → fin.get share.headers line ≡ None → ⊥
@@ -200,12 +193,6 @@ module _ (charge : Charge) (sizes : Sizes) (node : ℕ) (program : List Op) (sha
           (reclaim-fits sizes several Asked node (home_of sizes line) at room (line_at line) (share-line sizes share line of) (header-in line).lists (own-line line) here o e)
           (reclaim-in sizes.nodes some room (line_at line) (header-in line) node (home_of sizes line) at home o e))
 
-first3 : (a b c : Bool) → (a && b && not c) ≡ true → (a ≡ true) × (b ≡ true) × (c ≡ false)
-first3 a b c e = (grind arith, grind arith, grind arith)
-
-last2 : (a b c : Bool) → (a && b && c) ≡ true → (b ≡ true) × (c ≡ true)
-last2 a b c e = (grind arith, grind arith)
-
 get-is : (content : Content) → is_get content ≡ true → content ≡ Get
 get-is Get e = refl
 get-is GetX e = absurd (cc)
@@ -257,10 +244,10 @@ module _ (charge : Charge) (sizes : Sizes) (node : ℕ) (program : List Op) (sha
       row_at = line_share sizes out.share g
 
       want : (is_get (msg_content m) ≡ true) × (wants_victim (room_of charge sizes share) src (header_of sizes share (msg_line m)) ≡ true)
-      want = last2 (meets_row sizes node share src m) (is_get (msg_content m)) (wants_victim (room_of charge sizes share) src (header_of sizes share (msg_line m))) asks
+      want = last_two_parts (meets_row sizes node share src m) (is_get (msg_content m)) (wants_victim (room_of charge sizes share) src (header_of sizes share (msg_line m))) asks
 
       here : node ≡ home_of sizes g
-      here = let t = (first3 (home_of sizes g == node) (holds_link (room_of charge sizes share) (header_of sizes share g)) (is_pending (header_of sizes share g)) fit).0 in grind (arith, nat_tests)
+      here = let t = (parts_but_last (home_of sizes g == node) (holds_link (room_of charge sizes share) (header_of sizes share g)) (is_pending (header_of sizes share g)) fit).0 in grind (arith, nat_tests)
 
       home : home_of sizes g < sizes.nodes
       home = subst (λ k. k < sizes.nodes) here at

@@ -2,6 +2,7 @@
 -- An operation that a node has next is at a node of the machine, a copy is at one, so is a line that lists anybody, and a lane that isn't
 -- empty ends at one.
 use Rattle.std.proofs.Common.{◌≡◌, ◌⊎◌, inl, inr, ℕ, ◌<◌, ◌≤◌, Bool, true, false, cond, ◌==◌, ◌&&◌, not, slice_get, List, [], ◌∷◌, refl, arith, sym, ap, subst, ◌∙◌, Option, Some, None, Result, Ok, Err}
+use Rattle.std.proofs.lemmas.Bool.{cases_lt}
 use Rattle.std.proofs.lemmas.Bool.Decides.{nat_tests}
 use Rattle.line_map.specs.Sizes.{Sizes, all_words, home_of}
 use Rattle.op_model.specs.declared.events.Cause.{Cause}
@@ -20,7 +21,7 @@ use Rattle.op_model.specs.Nodes.{count}
 use Rattle.op_model.specs.Shares.{Charge, State, Trace, copy_of, header_of, is_linked, line_share, program, room_of}
 use Rattle.op_model.specs.Tables.Processor.{evict, holds_link, reclaim}
 use Rattle.node_range.specs.Range.{IsOfMachine, IsRanged}
-use Rattle.node_range.proofs.Programs.{below, in-program}
+use Rattle.node_range.proofs.Programs.{in-program}
 use Rattle.message_range.specs.Fitting.{AreOnWords}
 use Rattle.message_range.proofs.Acts.{evicts-copy, reclaims-holder}
 
@@ -77,7 +78,7 @@ module _ (charge : Charge) (trace : Trace) (all : IsOfMachine trace) (state : St
       subst (λ k. k < N) at.1 at.0
 
   pub filled : (src : ℕ) (class : Class) (m : Msg) (rest : List Msg) → state.lane src node class ≡ m ∷ rest → (src < N) × (node < N)
-  filled src class m rest is = go (below src N) (below node N)
+  filled src class m rest is = go (cases_lt src N) (cases_lt node N)
     where
       empty : state.lane src node class ≡ [] → ⊥
       empty none = let n : [] ≡ m ∷ rest = sym none ∙ is in cc
@@ -88,7 +89,7 @@ module _ (charge : Charge) (trace : Trace) (all : IsOfMachine trace) (state : St
       go a (inr b) = absurd (empty (ranged.lanes src node class (inr b)))
 
   has-copy : (line : ℕ) → is_empty (copy_of (state.share node) line) ≡ false → node < N
-  has-copy line full = go (below node N)
+  has-copy line full = go (cases_lt node N)
     where
       go : (node < N) ⊎ (N ≤ node) → node < N
       go (inl a) = a
@@ -102,7 +103,7 @@ module _ (charge : Charge) (trace : Trace) (all : IsOfMachine trace) (state : St
   reclaims : (line : ℕ) → node ≡ home_of trace.sizes line → (r : Result Outcome Cause) → reclaim (room_of charge trace.sizes (state.share node)) (line_share trace.sizes (state.share node) line) ≡ r → (out : NodeOutcome) →
       map_ok (by_row trace.sizes node (state.share node) line) r ≡ Ok out → node < N
   reclaims line home (Err c) is out e = absurd (let n : ◌≡◌ {A = Result NodeOutcome Cause} (Err c) (Ok out) = e in cc)
-  reclaims line home (Ok o) is out e = go (below node N)
+  reclaims line home (Ok o) is out e = go (cases_lt node N)
     where
       holds : holds_link (room_of charge trace.sizes (state.share node)) (header_of trace.sizes (state.share node) line) ≡ true
       holds = reclaims-holder (room_of charge trace.sizes (state.share node)) (line_share trace.sizes (state.share node) line) o is

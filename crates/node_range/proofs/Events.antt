@@ -2,6 +2,7 @@
 -- Every row is at a node of the machine and of a line whose home is one: an operation is of its trace, a copy is evicted where there is
 -- one, a line is called in where it lists a node, and a message is taken where there is one.
 use Rattle.std.proofs.Common.{◌≡◌, ℕ, ◌<◌, ◌≤◌, Bool, true, false, cond, ◌==◌, ◌&&◌, not, ◌⊎◌, inl, inr, List, [], ◌∷◌, refl, arith, ap, sym, ◌∙◌, subst, Some, Result, Ok, Err}
+use Rattle.std.proofs.lemmas.Bool.{cases_lt}
 use Rattle.std.proofs.lemmas.Bool.Decides.{nat_tests}
 use Rattle.line_map.specs.Sizes.{Sizes, home_of}
 use Rattle.op_model.specs.declared.events.Cause.{Cause}
@@ -25,7 +26,7 @@ use Rattle.lane_bounds.proofs.Effects.{IsEach, each-event, is_fit, row_at}
 use Rattle.lane_bounds.proofs.Lanes.{taken-either}
 use Rattle.lane_bounds.proofs.Runs.{keeps-run}
 use Rattle.node_range.specs.Range.{AreIn, IsHeaderIn, IsOfMachine, IsRanged, IsSentIn}
-use Rattle.node_range.proofs.Programs.{below, next-in}
+use Rattle.node_range.proofs.Programs.{next-in}
 use Rattle.node_range.proofs.Rows.{ranged-row}
 use Rattle.node_range.proofs.Tables.{begin-in, call-in-in, evict-in, message-in, reclaim-in}
 
@@ -68,7 +69,7 @@ module _ (charge : Charge) (trace : Trace) (all : IsOfMachine trace) (state : St
   local node line o node_in home_in header sends = ranged-row sizes state ranged node line o state.lane node_in home_in (λ same. header) sends ranged.lanes ranged.messages
 
   copy-in : (node line : ℕ) → (copy_of (state.share node) line ≡ Absent → ⊥) → (node < sizes.nodes) × (home_of sizes line < sizes.nodes)
-  copy-in node line has = go (below node sizes.nodes) (below (home_of sizes line) sizes.nodes)
+  copy-in node line has = go (cases_lt node sizes.nodes) (cases_lt (home_of sizes line) sizes.nodes)
     where
       go : (node < sizes.nodes) ⊎ (sizes.nodes ≤ node) → (home_of sizes line < sizes.nodes) ⊎ (sizes.nodes ≤ home_of sizes line) → (node < sizes.nodes) × (home_of sizes line < sizes.nodes)
       go (inl a) (inl b) = (a, b)
@@ -85,7 +86,7 @@ module _ (charge : Charge) (trace : Trace) (all : IsOfMachine trace) (state : St
       above n lt = omega arith
 
   line-in : (line : ℕ) → (count (header_of sizes (state.share (home_of sizes line)) line).list ≡ 0 → ⊥) → home_of sizes line < sizes.nodes
-  line-in line has = go (below (home_of sizes line) sizes.nodes)
+  line-in line has = go (cases_lt (home_of sizes line) sizes.nodes)
     where
       go : (home_of sizes line < sizes.nodes) ⊎ (sizes.nodes ≤ home_of sizes line) → home_of sizes line < sizes.nodes
       go (inl a) = a
@@ -105,7 +106,7 @@ module _ (charge : Charge) (trace : Trace) (all : IsOfMachine trace) (state : St
     filled none = let n : [] ≡ m ∷ rest = sym none ∙ front in cc
 
     ends : (src < sizes.nodes) × (dst < sizes.nodes)
-    ends = go (below src sizes.nodes) (below dst sizes.nodes)
+    ends = go (cases_lt src sizes.nodes) (cases_lt dst sizes.nodes)
       where
         go : (src < sizes.nodes) ⊎ (sizes.nodes ≤ src) → (dst < sizes.nodes) ⊎ (sizes.nodes ≤ dst) → (src < sizes.nodes) × (dst < sizes.nodes)
         go (inl a) (inl b) = (a, b)

@@ -1,6 +1,7 @@
 -- The next operation of a node is one of its trace, so its node and the home of its line are nodes of the machine.
 -- A program is the operations of its trace that pass a test; and a word below all words is of a line below all lines.
-use Rattle.std.proofs.Common.{◌≡◌, ℕ, zero, suc, ◌*◌, ◌/◌, ◌<◌, ◌≤◌, Bool, true, false, cond, nat_lt, ◌==◌, ◌⊎◌, inl, inr, List, [], ◌∷◌, refl, arith, subst, Option, Some, None, filter}
+use Rattle.std.proofs.Common.{◌≡◌, ℕ, zero, suc, ◌*◌, ◌/◌, ◌<◌, ◌≤◌, Bool, true, false, cond, ◌==◌, ◌⊎◌, inl, inr, List, [], ◌∷◌, refl, arith, subst, Option, Some, None, filter}
+use Rattle.std.proofs.lemmas.Bool.{cases_lt}
 use Rattle.std.proofs.lemmas.Bool.Decides.{nat_tests}
 use Rattle.std.proofs.Math.Nat.{div-div-eq-div-mul, div-mul-le_self, mul-le-mul_right}
 use Rattle.std.specs.List.{slice_get}
@@ -9,13 +10,6 @@ use Rattle.op_model.specs.declared.operations.Op.{Op}
 use Rattle.op_model.specs.Shares.{Trace}
 use Rattle.one_history.specs.Sound.{IsNextOp}
 use Rattle.node_range.specs.Range.{IsOfMachine}
-
-pub below : (n limit : ℕ) → (n < limit) ⊎ (limit ≤ n)
-below n limit = go (nat_lt n limit) refl
-  where
-    go : (c : Bool) → nat_lt n limit ≡ c → (n < limit) ⊎ (limit ≤ n)
-    go true e = inl (grind (arith, nat_tests))
-    go false e = inr (grind (arith, nat_tests))
 
 -- what holds of each operation of a list holds of each one of a node's
 pub in-program : (P : Op → Type 0) (node : ℕ) (ops : List Op) (i : ℕ) (next : Op) → ((j : ℕ) (op : Op) → slice_get ops j ≡ Some op → P op) → slice_get (filter (λ op. op.node == node) ops) i ≡ Some next → P next × (next.node ≡ node)
@@ -32,7 +26,7 @@ in-program P node (op ∷ ops) i next all e = go (op.node == node) refl i e (λ 
     go false same k e rest = rest k e
 
 home-below : (word nodes lines words : ℕ) → word < nodes * lines * words → word / words / lines < nodes
-home-below word nodes lines words lt = go (below (word / words / lines) nodes)
+home-below word nodes lines words lt = go (cases_lt (word / words / lines) nodes)
   where
     go : (word / words / lines < nodes) ⊎ (nodes ≤ word / words / lines) → word / words / lines < nodes
     go (inl it) = it

@@ -16,31 +16,25 @@ use Rattle.op_model.specs.declared.state.Wait.TheVariants.{ForwardGet, ForwardGe
 use Rattle.op_model.specs.declared.state.Want.{Want}
 use Rattle.op_model.specs.Lines.{Absent, Copy, Exclusive, Header, LineShare, NoService, Outcome, Room, Shared, first_of_list, is_exclusive, is_idle, is_pending, nobody_listed, owner, to_each, to_listed, words_of}
 use Rattle.op_model.specs.Messages.{Content, FAck, FwdGet, FwdGetX, Get, GetX, Inv, InvAck, Nak, Nakc, Put, PutX, Rpl, ShWb, Wb}
-use Rattle.op_model.specs.Nodes.{Nodes, enlist, in_order, in_order-once, listed, listings, none, only, times, unlist}
+use Rattle.op_model.specs.Nodes.{Nodes, enlist, in_order, listed, listings, none, only, times, unlist}
 use Rattle.op_model.specs.Operations.{is_load}
 use Rattle.op_model.specs.Tables.Home.{grant, grantee_of, lacks_link, no_other, on_fack, on_get, on_getx, on_inv_ack, on_nakc, on_rpl, on_shwb, on_wb, requester_of}
 use Rattle.op_model.specs.Tables.Processor.{ask, begin_at_home, begin_op, call_in, evict, fits, holds_link, leave_home, leave_remote, load_at_home, reclaim, serves, write_at_home}
 use Rattle.op_model.specs.Tables.Remote.{meets, on_fwd_get, on_fwd_getx, on_inv, on_message, on_nak, on_put, on_putx, row_of}
+use Rattle.op_model.proofs.Shares.{in_order-listed}
 use Rattle.line_invariant.proofs.Basics.{if-either}
 use Rattle.node_range.specs.Range.{IsContentIn, IsGranteeIn, IsHeaderIn, IsSentIn, IsWaitIn}
 
 module _ (nodes : ℕ) (some : 0 < nodes) where
-  members : (list : Nodes) (q : ℕ) → 0 < times q (in_order list) → listed list q ≡ true
-  members list q lt = go (listed list q) (in_order-once list q)
-    where
-      go : (c : Bool) → times q (in_order list) ≡ cond {A = ℕ} c 1 0 → c ≡ true
-      go true e = refl
-      go false e = absurd (omega arith)
-
   each-in : (ns : List ℕ) → ((q : ℕ) → 0 < times q ns → q < nodes) → IsSentIn nodes (to_each ns)
   each-in [] h = tt
   each-in (n ∷ ns) h = (h n (grind (arith, nat_tests)), tt, each-in ns (λ q lt. h q (grind (arith, nat_tests))))
 
   listed-in : (list : Nodes) → ((q : ℕ) → listed list q ≡ true → q < nodes) → IsSentIn nodes (to_listed list)
-  listed-in list h = each-in (in_order list) (λ q lt. h q (members list q lt))
+  listed-in list h = each-in (in_order list) (λ q lt. h q (in_order-listed list q lt))
 
   owner-in : (header : Header) → ((q : ℕ) → listed header.list q ≡ true → q < nodes) → owner header < nodes
-  owner-in header h = go (in_order header.list) (λ q lt. h q (members header.list q lt))
+  owner-in header h = go (in_order header.list) (λ q lt. h q (in_order-listed header.list q lt))
     where
       go : (ns : List ℕ) → ((q : ℕ) → 0 < times q ns → q < nodes) → first_of_list ns < nodes
       go [] h = some

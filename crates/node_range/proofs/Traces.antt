@@ -2,6 +2,7 @@
 use Rattle.std.proofs.Common.{◌≡◌, ◌≢◌, ℕ, zero, suc, ◌+◌, ◌<◌, ◌≤◌, Bool, true, false, cond, ◌==◌, ◌⊎◌, inl, inr, List, [], ◌∷◌, ◌++◌, refl, arith, ap, sym, ◌∙◌, subst, Option, Some, None}
 use Rattle.std.specs.Prelude.{slice_get, filter}
 use Rattle.std.specs.List.{flat_map, range_with_len}
+use Rattle.std.proofs.lemmas.Bool.{ne_eqb, cases_lt}
 use Rattle.std.proofs.lemmas.Bool.Decides.{nat_tests}
 use Rattle.std.proofs.lemmas.List.{append-nil}
 use Rattle.std.proofs.lemmas.List.Elements.{filter-append}
@@ -11,9 +12,9 @@ use Rattle.op_model.specs.Events.Step.{Programs}
 use Rattle.op_model.specs.Programs.{IsOrderOf}
 use Rattle.op_model.specs.Run.Schedules.{all_nodes}
 use Rattle.op_model.specs.Shares.{Trace, program}
+use Rattle.op_model.proofs.Plain.{eqb-self}
 use Rattle.node_range.specs.Range.{IsOfMachine}
 use Rattle.node_range.specs.Traces.{AreProgramsIn, IsTraceOf}
-use Rattle.node_range.proofs.Programs.{below}
 
 -- operations in an order, and node by node
 abbrev pub trace_in : Sizes → List Op → Trace
@@ -25,12 +26,6 @@ in_turn sizes programs = flat_map programs (all_nodes sizes)
 abbrev pub turn_of : Sizes → Programs → Trace
 turn_of sizes programs = trace_in sizes (in_turn sizes programs)
 
-pub at_self : (n : ℕ) → (n == n) ≡ true
-at_self n = grind (arith, nat_tests)
-
-at_other : (a b : ℕ) → a ≢ b → (a == b) ≡ false
-at_other a b other = grind (arith, nat_tests)
-
 -- all operations are of one node
 abbrev AreBy : ℕ → List Op → Type 0
 AreBy node ops = (i : ℕ) (op : Op) → slice_get ops i ≡ Some op → op.node ≡ node
@@ -38,13 +33,13 @@ AreBy node ops = (i : ℕ) (op : Op) → slice_get ops i ≡ Some op → op.node
 filter-own : (node : ℕ) (ops : List Op) → AreBy node ops → filter (λ op. op.node == node) ops ≡ ops
 filter-own node [] by = refl
 filter-own node (op ∷ ops) by =
-    ap (λ b. cond b (op ∷ filter (λ o. o.node == node) ops) (filter (λ o. o.node == node) ops)) (ap (λ n. n == node) (by 0 op refl) ∙ at_self node)
+    ap (λ b. cond b (op ∷ filter (λ o. o.node == node) ops) (filter (λ o. o.node == node) ops)) (ap (λ n. n == node) (by 0 op refl) ∙ eqb-self node)
     ∙ ap (λ os. op ∷ os) (filter-own node ops (λ i. by (suc i)))
 
 filter-others : (node other : ℕ) (ops : List Op) → AreBy other ops → other ≢ node → filter (λ op. op.node == node) ops ≡ []
 filter-others node other [] by differ = refl
 filter-others node other (op ∷ ops) by differ =
-    ap (λ b. cond b (op ∷ filter (λ o. o.node == node) ops) (filter (λ o. o.node == node) ops)) (ap (λ n. n == node) (by 0 op refl) ∙ at_other other node differ)
+    ap (λ b. cond b (op ∷ filter (λ o. o.node == node) ops) (filter (λ o. o.node == node) ops)) (ap (λ n. n == node) (by 0 op refl) ∙ ne_eqb other node differ)
     ∙ filter-others node other ops (λ i. by (suc i)) differ
 
 module _ (programs : Programs) (by : (node : ℕ) → AreBy node (programs node)) where
@@ -108,7 +103,7 @@ module _ (sizes : Sizes) (programs : Programs) (are : AreProgramsIn sizes progra
     where
       own : (i : ℕ) (op : Op) → slice_get order i ≡ Some op → (op.node < sizes.nodes) × (op.word < all_words sizes)
       own i op is =
-          let at = filter-place (λ o. o.node == op.node) order i op is (at_self op.node) in
+          let at = filter-place (λ o. o.node == op.node) order i op is (eqb-self op.node) in
           let it = are op.node at.0 op (ap (λ os. slice_get os at.0) (sym (ordered op.node)) ∙ at.1) in
           (it.of_machine, it.is.word)
 
@@ -128,11 +123,11 @@ module _ (sizes : Sizes) (programs : Programs) (are : AreProgramsIn sizes progra
     where
       go : (ops : List Op) → programs node ≡ ops → programs node ≡ []
       go [] is = is
-      go (op ∷ ops) is = absurd (let own = are node 0 op (ap (λ os. slice_get os 0) is) in let below = own.of_machine in omega arith)
+      go (op ∷ ops) is = absurd (let own = are node 0 op (ap (λ os. slice_get os 0) is) in let cases_lt = own.of_machine in omega arith)
 
   -- node by node they are a trace of the programs
   pub turn-is : IsTraceOf sizes programs (turn_of sizes programs)
-  turn-is = record { sized = refl; ordered = λ node. go node (below node sizes.nodes) }
+  turn-is = record { sized = refl; ordered = λ node. go node (cases_lt node sizes.nodes) }
     where
       go : (node : ℕ) → (node < sizes.nodes) ⊎ (sizes.nodes ≤ node) → filter (λ op. op.node == node) (in_turn sizes programs) ≡ programs node
       go node (inl less) = range-one programs by-node 0 sizes.nodes node (omega arith) (omega arith)

@@ -1,16 +1,12 @@
 -- A cache, call by call: the copy of one line is put, once or again, or stays.
 use Rattle.std.proofs.Common.{◌≡◌, ◌≢◌, ℕ, Bool, true, false, cond, ◌==◌, is_some, Option, Some, None, unwrap_or, refl, sym, ap, ◌∙◌, arith}
 use Rattle.std.proofs.lemmas.Bool.Decides.{nat_tests}
-use Rattle.std.specs.Cmp.{nat_cmp_total}
 use Rattle.std.specs.FinMap as fin
 use Rattle.op_model.specs.Lines.{Copy, Absent, Shared, Exclusive, is_empty}
 use Rattle.op_model.specs.Shares.{put_copy, Copies, copy_in}
 use Rattle.cpu_cache.specs.Caches.{CacheView, IsDirectMapped}
-use Rattle.cpu_cache.proofs.Copies.{stored, get-put_copy}
+use Rattle.cpu_cache.proofs.Copies.{stored, get-put_copy, same_copies}
 use Rattle.node_share.specs.Parts.{AreCopies}
-
-same_copies : (copies more : Copies) → ((line : ℕ) → fin.get copies line ≡ fin.get more line) → copies ≡ more
-same_copies copies more same = fin.same_map nat_cmp_total fin.nat_cmp-IsAntisymmetric copies more same
 
 stored-read : (copy : Copy) → unwrap_or (stored copy) Absent ≡ copy
 stored-read Absent = refl

@@ -1,5 +1,5 @@
 -- A home, call by call. Each call leaves a home that differs from the first one in the header of one line, and in its directory.
-use Rattle.std.proofs.Common.{◌≡◌, ℕ, Bool, true, false, cond, nat_le, not, is_some, Result, Ok, Err, Option, Some, None, unwrap_or, refl, sym, ap, ◌∙◌, arith}
+use Rattle.std.proofs.Common.{◌≡◌, ℕ, Bool, true, false, cond, nat_le, not, Result, Ok, Err, unwrap_or, refl, sym, ap, ◌∙◌, arith}
 use Rattle.std.specs.FinMap as fin
 use Rattle.line_map.specs.Sizes.{home_of}
 use Rattle.op_model.specs.Lines.{Header}
@@ -8,6 +8,7 @@ use Rattle.dir_header.specs.Sharers.{Directory}
 use Rattle.dir_header.specs.HomeSides.{HomeView, IsHome, header_at, room_in, with_header}
 use Rattle.std.specs.Prelude.{is_err, OnOk}
 use Rattle.op_model.specs.Lines.{is_idle}
+use Rattle.op_model.proofs.Plain.{some_held}
 use Rattle.dir_header.proofs.Sums.{sum-insert}
 use Rattle.dir_header.proofs.Changes.{pend}
 pub use Rattle.dir_header.proofs.Tables.{put-same}
@@ -53,14 +54,10 @@ puts-once old new line header dir is = record { sizes = ap (λ h. h.sizes) is; n
 pub home-headers : {D : Type 0} (dir : Directory) (home : HomeView D) → IsHome dir home → AreHeaders home.sizes home.node home.headers
 home-headers dir home is line own = (is.own line).1 own
 
-there : (o : Option Header) (first : Header) → is_some o ≡ true → o ≡ Some (unwrap_or o first)
-there None first e = cc
-there (Some header) first e = refl
-
 -- no call
 pub puts-none : {D : Type 0} (home : HomeView D) (line : ℕ) → AreHeaders home.sizes home.node home.headers → home_of home.sizes line ≡ home.node → Puts home home line (header_at home line)
 unfolding header_in
-puts-none home line has own = record { sizes = refl; node = refl; charge = refl; headers = sym (put-same home.headers line (header_at home line) (there (fin.get home.headers line) (first_header home.sizes) (has line own))) }
+puts-none home line has own = record { sizes = refl; node = refl; charge = refl; headers = sym (put-same home.headers line (header_at home line) (some_held (fin.get home.headers line) (first_header home.sizes) (has line own))) }
 
 -- a home that doesn't refuse isn't full
 pub not-full : (full : Bool) → (full ≡ true → false ≡ true) → full ≡ false
@@ -72,14 +69,11 @@ pub on-ok : {A E : Type 0} (r : Result A E) {P : Type 0} → (is_err r ≡ true 
 on-ok (Ok a) never done = done
 on-ok (Err e) never done = absurd (never refl)
 
-pub never-true : (b : Bool) → b ≡ false → b ≡ true → ⊥
-never-true b off on = let d : true ≡ false = sym on ∙ off in cc
-
 -- a home has as many pending lines where a line has another list
 pub full-stays : {D : Type 0} (old new : HomeView D) (line : ℕ) (header : Header) → AreHeaders old.sizes old.node old.headers → home_of old.sizes line ≡ old.node → Puts old new line header → header.wait ≡ (header_at old line).wait → (room_in new).full ≡ (room_in old).full
 unfolding header_in
 full-stays old new line header has own puts waits =
-    let at = there (fin.get old.headers line) (first_header old.sizes) (has line own) in
+    let at = some_held (fin.get old.headers line) (first_header old.sizes) (has line own) in
     let sum = sum-insert pend line header (header_at old line) old.headers at in
     let same : pend header ≡ pend (header_at old line) = ap (λ w. cond (not (is_idle w)) 1 0) waits in
     let fewer : pending_among (fin.insert old.headers line header) ≡ pending_among old.headers = omega arith in

@@ -1,38 +1,19 @@
 -- The list of a line: how many nodes it may have, and what is sent to each of them.
-use Rattle.std.proofs.Common.{◌≡◌, ℕ, zero, suc, ◌+◌, ◌-◌, ◌%◌, ◌<◌, ◌≤◌, Bool, true, false, cond, ◌==◌, List, [], ◌∷◌, append_assoc, length, get_or, length-append, refl, sym, ap, ◌∙◌, arith}
+use Rattle.std.proofs.Common.{◌≡◌, ℕ, suc, ◌+◌, ◌-◌, ◌%◌, ◌<◌, ◌≤◌, true, false, cond, ◌==◌, List, [], ◌∷◌, append_assoc, length, get_or, length-append, refl, sym, ap, ◌∙◌, arith}
 use Rattle.std.proofs.lemmas.Bool.Decides.{nat_tests}
 use Rattle.line_map.specs.Sizes.{Sizes, home_of}
 use Rattle.dir_header.specs.Sharers.{Directory, list_at}
 use Rattle.dir_header.specs.HomeSides.{HomeView, IsHome, header_at}
 use Rattle.op_model.specs.declared.messages.Msg.TheVariants as msg
-use Rattle.op_model.specs.Nodes.{Nodes, listed, unlist, count, none, in_order, count-none, count-unlist, listed-unlist, listed-none, same_nodes, count-in_order, none_of_count}
+use Rattle.op_model.specs.Nodes.{Nodes, listed, unlist, count, in_order, count-unlist, count-in_order}
 use Rattle.op_model.specs.Lines.{first_of_list, to_each, to_listed}
 use Rattle.op_model.specs.Tables.Home.{no_other}
 use Rattle.op_model.specs.Events.Node.{messages}
+use Rattle.op_model.proofs.Shares.{count-below}
 use Rattle.msg_words.specs.SendList.{SendList}
+use Rattle.dir_header.proofs.Returns.{some-listed}
 use Rattle.node_share.specs.Parts.{sent}
 use Rattle.node_share.proofs.Wants.{sent-none}
-
--- a list of nodes below n has at most n of them
-pub count-below : (n : ℕ) (list : Nodes) → ((q : ℕ) → listed list q ≡ true → q < n) → count list ≤ n
-count-below zero list below =
-    let empty : list ≡ none = same_nodes list none (λ q. by q (listed list q) refl ∙ sym (listed-none q)) in
-    let c : count list ≡ 0 = ap count empty ∙ count-none in omega arith
-  where
-    by : (q : ℕ) (b : Bool) → listed list q ≡ b → b ≡ false
-    by q true e = absurd (let l = below q e in omega arith)
-    by q false e = refl
-count-below (suc n) list below =
-    let rest : count (unlist list n) ≤ n = count-below n (unlist list n) (λ q there. less q (below q) there) in
-    let c = count-unlist list n in
-    by (listed list n) (count list) (count (unlist list n)) c rest
-  where
-    less : (q : ℕ) → (listed list q ≡ true → q < suc n) → listed (unlist list n) q ≡ true → q < n
-    less q each there = let l = listed-unlist list n q in grind (arith, nat_tests)
-
-    by : (l : Bool) (k k' : ℕ) → k' ≡ cond l (k - 1) k → k' ≤ n → k ≤ suc n
-    by true k k' e h = omega arith
-    by false k k' e h = omega arith
 
 pub first-place : (nodes : List ℕ) → get_or nodes 0 0 ≡ first_of_list nodes
 first-place [] = refl
@@ -71,14 +52,6 @@ module _ {D : Type 0} (dir : Directory) (home : HomeView D) (is : IsHome dir hom
 
   pub few-listed : count (header_at home line).list ≤ home.sizes.nodes
   few-listed = count-below home.sizes.nodes (header_at home line).list (λ q. is.below line q own)
-
--- a list in which a node is has one
-pub some-listed : (list : Nodes) (node : ℕ) → listed list node ≡ true → 0 < count list
-some-listed list node there = by (count list) refl
-  where
-    by : (n : ℕ) → count list ≡ n → 0 < n
-    by zero e = absurd (let off = ap (λ l. listed l node) (none_of_count list e) ∙ listed-none node in let d : true ≡ false = sym there ∙ off in cc)
-    by (suc n) e = omega arith
 
 pub alone-listed : (list : Nodes) (node : ℕ) → listed list node ≡ true → (count list == 1) ≡ no_other node list
 alone-listed list node there =

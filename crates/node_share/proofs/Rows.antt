@@ -1,8 +1,9 @@
 -- What a row does at a line, told by what it makes of each part: so a handler that leaves the parts leaves the share of the row.
-use Rattle.std.proofs.Common.{◌≡◌, ◌≢◌, ℕ, suc, Bool, true, false, cond, ◌==◌, List, Option, Some, None, refl, sym, ap, ◌∙◌, arith}
+use Rattle.std.proofs.Common.{◌≡◌, ◌≢◌, ℕ, suc, Bool, true, false, cond, ◌==◌, List, Option, refl, sym, ap, ◌∙◌, arith}
+use Rattle.std.proofs.lemmas.Bool.{cond-true, cond-false, eqb-true}
 use Rattle.std.proofs.lemmas.Bool.Decides.{nat_tests}
 use Rattle.std.specs.FinMap as fin
-use Rattle.line_map.specs.Sizes.{Sizes, line_of, home_of}
+use Rattle.line_map.specs.Sizes.{Sizes, home_of}
 use Rattle.op_model.specs.declared.state.Want.{Want}
 use Rattle.op_model.specs.Lines.{Copy, Header, LineShare, Outcome}
 use Rattle.op_model.specs.Shares.{Share, copy_of, line_share, put_copy, put_share, want_on, want_after, header_in, Copies, copy_in, Headers}
@@ -14,20 +15,12 @@ use Rattle.op_model.specs.Lines.{Service, NoService, For}
 use Rattle.cpu_cache.specs.declared.effects.Effect.{Effect}
 use Rattle.node_share.proofs.Wants.{effect-none, effect-for}
 use Rattle.op_model.specs.Events.Node.{messages, by_row}
+use Rattle.op_model.proofs.Shares.{want-stays}
 use Rattle.cpu_cache.specs.Effects.{effect_of, nothing, load_by}
 use Rattle.msg_words.specs.SendList.{SendList}
 use Rattle.node_share.specs.Parts.{share_of, AreCopies, row_at, sent, DoesRow}
 use Rattle.node_share.proofs.Homes.{Puts}
 use Rattle.node_share.proofs.Copies.{copy-kept}
-
--- what is wanted of another line, or of this one where a row keeps it
-pub want-kept : (sizes : Sizes) (want : Option Want) (line : ℕ) → want_after sizes want line (want_on sizes want line) ≡ want
-want-kept sizes None line = refl
-want-kept sizes (Some want) line = by_line (line_of sizes want.op.word == line)
-  where
-    by_line : (b : Bool) → cond b (cond b (Some want) None) (Some want) ≡ Some want
-    by_line true = refl
-    by_line false = refl
 
 module _ (sizes : Sizes) (node line : ℕ) (proc : ProcView) (copies : Copies) (headers : Headers) (row : LineShare → Outcome) where
   abbrev pub before : LineShare
@@ -41,14 +34,6 @@ module _ (sizes : Sizes) (node line : ℕ) (proc : ProcView) (copies : Copies) (
       share_of proc' copies' headers' ≡ (row_at sizes node (share_of proc copies headers) line row).share
   unfolding put_share
   row-share proc' copies' headers' place want copy header = λ i. record { place = place i; want = want i; copies = copy i; headers = header i }
-
-no : {A : Type 0} (b : Bool) (x y : A) → b ≡ false → cond b x y ≡ y
-no true x y e = cc
-no false x y e = refl
-
-yes : {A : Type 0} (b : Bool) (x y : A) → b ≡ true → cond b x y ≡ x
-yes true x y e = refl
-yes false x y e = cc
 
 pub at-home : (sizes : Sizes) (node line : ℕ) → home_of sizes line ≡ node → (node == home_of sizes line) ≡ true
 at-home sizes node line own = grind (arith, nat_tests)
@@ -66,9 +51,9 @@ header-row old new line header row own puts is proc copies are =
     let want = want_on old.sizes proc.want line in
     row-share old.sizes old.node line proc copies old.headers row proc copies new.headers
     (sym (ap (λ b. cond b (suc proc.place) proc.place) (is.done copy want)))
-    (sym (ap (λ s. want_after old.sizes proc.want line s.want) (is.share copy want) ∙ want-kept old.sizes proc.want line))
+    (sym (ap (λ s. want_after old.sizes proc.want line s.want) (is.share copy want) ∙ want-stays old.sizes proc.want line))
     (sym (ap (λ s. put_copy copies line s.copy) (is.share copy want) ∙ copy-kept copies line are))
-    (puts.headers ∙ sym (yes (old.node == home_of old.sizes line) _ _ (at-home old.sizes old.node line own) ∙ ap (λ s. fin.insert old.headers line s.header) (is.share copy want)))
+    (puts.headers ∙ sym (cond-true (old.node == home_of old.sizes line) _ _ (at-home old.sizes old.node line own) ∙ ap (λ s. fin.insert old.headers line s.header) (is.share copy want)))
 
 -- a row that changes the header of a line at its home and the home's copy, and not what is wanted
 module _ {D : Type 0} (old new : HomeView D) (copies copies' : Copies) (line : ℕ) (header : Header) (copy : Copy) (out out' : SendList) (sends : List (ℕ × Content)) (served : Service) (row : LineShare → Outcome) where
@@ -83,9 +68,9 @@ module _ {D : Type 0} (old new : HomeView D) (copies copies' : Copies) (line : �
       record {
         share = row-share old.sizes old.node line proc copies old.headers row proc copies' new.headers
             (sym (ap (λ o. cond o.done (suc proc.place) proc.place) (is want)))
-            (sym (ap (λ o. want_after old.sizes proc.want line o.share.want) (is want) ∙ want-kept old.sizes proc.want line))
+            (sym (ap (λ o. want_after old.sizes proc.want line o.share.want) (is want) ∙ want-stays old.sizes proc.want line))
             (copies-are ∙ sym (ap (λ o. put_copy copies line o.share.copy) (is want)))
-            (puts.headers ∙ sym (yes (old.node == home_of old.sizes line) _ _ (at-home old.sizes old.node line own) ∙ ap (λ o. fin.insert old.headers line o.share.header) (is want)));
+            (puts.headers ∙ sym (cond-true (old.node == home_of old.sizes line) _ _ (at-home old.sizes old.node line own) ∙ ap (λ o. fin.insert old.headers line o.share.header) (is want)));
         sends = out-is ∙ sym (ap (λ o. sent out (messages line o.sends)) (is want));
       }
 
@@ -116,7 +101,7 @@ module _ {D : Type 0} (old new : HomeView D) (proc proc' : ProcView) (copies cop
         (place ∙ sym (ap (λ k. cond k.done (suc proc.place) proc.place) is))
         (want ∙ sym (ap (λ k. want_after old.sizes proc.want line k.share.want) is))
         (copies-are ∙ sym (ap (λ k. put_copy copies line k.share.copy) is))
-        (puts.headers ∙ sym (yes (old.node == home_of old.sizes line) _ _ (at-home old.sizes old.node line own) ∙ ap (λ k. fin.insert old.headers line k.share.header) is));
+        (puts.headers ∙ sym (cond-true (old.node == home_of old.sizes line) _ _ (at-home old.sizes old.node line own) ∙ ap (λ k. fin.insert old.headers line k.share.header) is));
     sends = out-is ∙ sym (ap (λ k. sent out (messages line k.sends)) is);
   }
 
@@ -152,10 +137,7 @@ pub is-away : (sizes : Sizes) (node line : ℕ) → home_of sizes line ≢ node 
 is-away sizes node line away = by (node == home_of sizes line) refl
   where
     by : (b : Bool) → (node == home_of sizes line) ≡ b → b ≡ false
-    by true e = absurd (away (let same : home_of sizes line ≡ node = turn node (home_of sizes line) e in same))
-      where
-        turn : (a b : ℕ) → (a == b) ≡ true → b ≡ a
-        turn a b e = grind (arith, nat_tests)
+    by true e = absurd (away (sym (eqb-true node (home_of sizes line) e)))
     by false e = refl
 
 module _ (sizes : Sizes) (node line : ℕ) (proc proc' : ProcView) (copies copies' : Copies) (headers : Headers) (out out' : SendList) (row : LineShare → Outcome) (o : Outcome) where
@@ -169,6 +151,6 @@ module _ (sizes : Sizes) (node line : ℕ) (proc proc' : ProcView) (copies copie
         (place ∙ sym (ap (λ k. cond k.done (suc proc.place) proc.place) is))
         (want ∙ sym (ap (λ k. want_after sizes proc.want line k.share.want) is))
         (copies-are ∙ sym (ap (λ k. put_copy copies line k.share.copy) is))
-        (sym (no (node == home_of sizes line) _ _ (is-away sizes node line away)));
+        (sym (cond-false (node == home_of sizes line) _ _ (is-away sizes node line away)));
     sends = out-is ∙ sym (ap (λ k. sent out (messages line k.sends)) is);
   }

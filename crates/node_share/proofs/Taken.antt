@@ -1,6 +1,7 @@
 -- A copy that is taken from given words, and an operation that is done on a copy.
-use Rattle.std.proofs.Common.{◌≡◌, ◌≢◌, ℕ, Bool, true, false, cond, not, ◌==◌, is_some, Option, Some, None, unwrap_or, refl, sym, ap, ◌∙◌, arith}
+use Rattle.std.proofs.Common.{◌≡◌, ◌≢◌, ℕ, Bool, true, false, cond, ◌==◌, refl, sym, ap, ◌∙◌, arith}
 use Rattle.std.specs.FinMap as fin
+use Rattle.std.proofs.lemmas.Bool.{cond-true, cond-false}
 use Rattle.std.proofs.lemmas.Bool.Decides.{nat_tests}
 use denote.Enum.Bare.{sameb}
 use Rattle.line_map.specs.Sizes.{set_of, line_of}
@@ -14,7 +15,7 @@ use Rattle.op_model.specs.Shares.{put_copy, Copies, copy_in}
 use Rattle.op_model.specs.Tables.Processor.{serves, done_on}
 use Rattle.cpu_cache.specs.Caches.{CacheView, with_copy, is_set_free, is_set_taken, IsDirectMapped}
 use Rattle.cpu_cache.specs.Caches.{IsResident}
-use Rattle.cpu_cache.proofs.Sets.{free_by_none, taken_by}
+use Rattle.cpu_cache.proofs.Sets.{free_by_none, taken_by, filled}
 use Rattle.node_share.specs.Parts.{AreCopies, copy_done}
 use Rattle.node_share.proofs.Copies.{copy-put, copy-put_other, copy-put_again, copy-kept}
 
@@ -24,35 +25,19 @@ load_test Store = refl
 load_test Swap = refl
 load_test Add = refl
 
-pub not-false : (b : Bool) → not b ≡ false → b ≡ true
-not-false true e = refl
-not-false false e = cc
-
-yes : {A : Type 0} (b : Bool) (x y : A) → b ≡ true → cond b x y ≡ x
-yes true x y e = refl
-yes false x y e = cc
-
-no : {A : Type 0} (b : Bool) (x y : A) → b ≡ false → cond b x y ≡ y
-no true x y e = cc
-no false x y e = refl
-
 -- where no other line stands in the set of a line, no other line of it has a copy
 pub alone : (cache : CacheView) (line other : ℕ) → IsDirectMapped cache → is_set_taken cache line ≡ false → set_of cache.sizes other ≡ set_of cache.sizes line → other ≢ line → is_empty (copy_in cache.copies other) ≡ true
 alone cache line other is free same apart = by (is_empty (copy_in cache.copies other)) refl
   where
-    there : (o : Option Copy) → is_empty (unwrap_or o Absent) ≡ false → is_some o ≡ true
-    there None e = cc
-    there (Some copy) e = refl
-
     by : (b : Bool) → is_empty (copy_in cache.copies other) ≡ b → b ≡ true
     by true e = refl
     by false e =
-        let some = there (fin.get cache.copies other) e in
+        let some = filled (fin.get cache.copies other) e in
         let resident : IsResident cache line other = record {
           held = e;
           in_set = same;
           below = is.below other some;
-          only = λ q in_set copied. is.one q other (in_set ∙ sym same) (there (fin.get cache.copies q) copied) some;
+          only = λ q in_set copied. is.one q other (in_set ∙ sym same) (filled (fin.get cache.copies q) copied) some;
         } in
         let d : true ≡ false = sym ((taken_by cache line other resident).1 apart) ∙ free in cc
 
@@ -86,7 +71,7 @@ load-keeps op copies line are load = ap (put_copy copies line) (same (copy_in co
     same : (copy : Copy) → done_on op copy ≡ copy
     same Absent = refl
     same (Shared words) = refl
-    same (Exclusive words) = ap Exclusive (yes (is_load op.kind) _ _ load)
+    same (Exclusive words) = ap Exclusive (cond-true (is_load op.kind) _ _ load)
 
 -- the copy that an operation takes, before it is done on it
 abbrev pub lent : Op → Words → Copy
@@ -114,7 +99,7 @@ lent-words op words = by_kind (is_load op.kind)
     by_kind false = refl
 
 pub lent-write : (op : Op) (words : Words) → is_load op.kind ≡ false → lent op words ≡ Exclusive words
-lent-write op words e = no (is_load op.kind) _ _ e
+lent-write op words e = cond-false (is_load op.kind) _ _ e
 
 -- a copy is taken, and the operation is done on it
 module _ (cache cache1 : CacheView) (op : Op) (line : ℕ) (words : Words) (line-is : line ≡ line_of cache.sizes op.word) (first : cache1 ≡ with_copy cache line (lent op words)) where

@@ -1,14 +1,14 @@
 -- What a node has begun, on the line of a row; and what handlers tell of the operations that are served and done.
-use Rattle.std.proofs.Common.{◌≡◌, ℕ, Bool, true, false, cond, not, ◌==◌, List, [], append-nil, slice_get, Option, Some, None, refl, sym, ap, ◌∙◌, arith}
-use Rattle.std.proofs.lemmas.Bool.Decides.{nat_tests}
+use Rattle.std.proofs.Common.{◌≡◌, ℕ, Bool, true, false, cond, ◌==◌, List, [], append-nil, slice_get, Option, Some, None, refl, sym, ap, ◌∙◌}
+use Rattle.std.proofs.lemmas.Bool.{eqb-true, eq-eqb, not-true}
 use Rattle.line_map.specs.Sizes.{Sizes, line_of}
 use Rattle.op_model.specs.declared.operations.Op.{Op}
 use Rattle.op_model.specs.declared.state.Want.{Want}
 use Rattle.op_model.specs.Operations.{Words, is_load, entry_of, after_op}
-use Rattle.op_model.specs.Lines.{Copy, Absent, Shared, Exclusive, NoService, Own, For, is_empty}
+use Rattle.op_model.specs.Lines.{Copy, Absent, Shared, Exclusive, NoService, Own, For, is_empty, is_outstanding}
 use Rattle.op_model.specs.Shares.{want_on, want_after, is_set_empty, copy_of, copy_in, Headers}
 use Rattle.op_model.specs.Tables.Processor.{serves}
-use Rattle.op_model.specs.Tables.Remote.{waits_any, waits_load, waits_write}
+use Rattle.op_model.specs.Tables.Remote.{waits_load, waits_write}
 use Rattle.op_model.specs.Events.Node.{NodeOutcome}
 use Rattle.op_model.specs.Programs.{IsProgramOf}
 use Rattle.cpu_cache.specs.Effects.{served_of, words_done, entry_at, done_of, effect_of, nothing, own_effect, load_by}
@@ -27,22 +27,16 @@ module _ (sizes : Sizes) (wanted : Option Want) (line : ℕ) (want : Want) (is :
   on-some : want_on sizes wanted line ≡ cond (line_of sizes want.op.word == line) (Some want) None
   on-some = ap (λ w. want_on sizes w line) is
 
-  pub on-line : waits_any (want_on sizes wanted line) ≡ true → line_of sizes want.op.word ≡ line
-  on-line waits = by (line_of sizes want.op.word == line) refl (ap waits_any (sym on-some) ∙ waits)
+  pub on-line : is_outstanding (want_on sizes wanted line) ≡ true → line_of sizes want.op.word ≡ line
+  on-line waits = by (line_of sizes want.op.word == line) refl (ap is_outstanding (sym on-some) ∙ waits)
     where
-      by : (b : Bool) → (line_of sizes want.op.word == line) ≡ b → waits_any (cond b (Some want) None) ≡ true → line_of sizes want.op.word ≡ line
-      by true e w = same (line_of sizes want.op.word) line e
-        where
-          same : (a b : ℕ) → (a == b) ≡ true → a ≡ b
-          same a b e = grind (arith, nat_tests)
+      by : (b : Bool) → (line_of sizes want.op.word == line) ≡ b → is_outstanding (cond b (Some want) None) ≡ true → line_of sizes want.op.word ≡ line
+      by true e w = eqb-true (line_of sizes want.op.word) line e
       by false e w = cc
 
   module _ (on : line_of sizes want.op.word ≡ line) where
     test : (line_of sizes want.op.word == line) ≡ true
-    test = same (line_of sizes want.op.word) line on
-      where
-        same : (a b : ℕ) → a ≡ b → (a == b) ≡ true
-        same a b e = grind (arith, nat_tests)
+    test = eq-eqb (line_of sizes want.op.word) line on
 
     pub want-is : want_on sizes wanted line ≡ Some want
     want-is = on-some ∙ ap (λ b. cond b (Some want) None) test
@@ -51,26 +45,14 @@ module _ (sizes : Sizes) (wanted : Option Want) (line : ℕ) (want : Want) (is :
     pub want-gone : want_after sizes wanted line None ≡ None
     want-gone = ap (λ w. want_after sizes w line None) is ∙ ap (λ b. cond b None (Some want)) test
 
-pub load-any : (want : Option Want) → waits_load want ≡ true → waits_any want ≡ true
-load-any None e = e
-load-any (Some want) e = refl
-
-pub write-any : (want : Option Want) → waits_write want ≡ true → waits_any want ≡ true
-write-any None e = e
-write-any (Some want) e = refl
-
 -- what is begun and is a load, or a write
 pub load-is : (wanted : Option Want) (want : Want) → wanted ≡ Some want → waits_load wanted ≡ true → is_load want.op.kind ≡ true
 load-is wanted want is waits = ap waits_load (sym is) ∙ waits
 
 pub write-is : (wanted : Option Want) (want : Want) → wanted ≡ Some want → waits_write wanted ≡ true → is_load want.op.kind ≡ false
-write-is wanted want is waits = turned (is_load want.op.kind) (ap waits_write (sym is) ∙ waits)
-  where
-    turned : (b : Bool) → not b ≡ true → b ≡ false
-    turned true e = cc
-    turned false e = refl
+write-is wanted want is waits = not-true (is_load want.op.kind) (ap waits_write (sym is) ∙ waits)
 
-pub some-waits : (wanted : Option Want) → waits_any wanted ≡ true → (want : Want) × (wanted ≡ Some want)
+pub some-waits : (wanted : Option Want) → is_outstanding wanted ≡ true → (want : Want) × (wanted ≡ Some want)
 some-waits None e = cc
 some-waits (Some want) e = (want, refl)
 

@@ -11,8 +11,8 @@ use Rattle.op_model.specs.Operations.{is_load}
 use Rattle.op_model.specs.Run.History.{Follows, IsNext, entries_by, history, is_completed, kept_of}
 use Rattle.op_model.specs.Run.Runs.{Past}
 use Rattle.op_model.specs.Shares.{State, Trace, program, want_on}
+use Rattle.op_model.proofs.Plain.{eqb-self}
 use Rattle.line_invariant.specs.Rows.{wanting}
-use Rattle.line_invariant.proofs.Basics.{eq-self}
 use Rattle.line_invariant.proofs.Served.{writes-answered}
 use Rattle.one_history.specs.Project.{project}
 use Rattle.one_history.specs.Sound.{IsBegunWell, IsSound, answered_of}
@@ -37,7 +37,7 @@ legal-kept state flat (x ∷ xs) each legal = go (is_completed state x) refl eac
 -- what holds of each node's entries holds of all
 pub by-node : (P : Entry → Type 0) (xs : List Entry) → ((n : ℕ) → Each P (entries_by n xs)) → Each P xs
 by-node P [] each = tt
-by-node P (x ∷ xs) each = ((rw (eq-self x.node) at (each x.node)).0, by-node P xs (λ n. tail n (x.node == n) (each n)))
+by-node P (x ∷ xs) each = ((rw (eqb-self x.node) at (each x.node)).0, by-node P xs (λ n. tail n (x.node == n) (each n)))
   where
     tail : (n : ℕ) (c : Bool) → Each P (cond c (x ∷ entries_by n xs) (entries_by n xs)) → Each P (entries_by n xs)
     tail n true h = h.1
@@ -93,10 +93,10 @@ module _ (trace : Trace) (past : Past) (sound : IsSound trace past) where
           loads : (c : Bool) → is_load want.op.kind ≡ c → c ≡ true
           loads true load = refl
           loads false write =
-              let wants : want_on trace.sizes (past.state.share n).want line ≡ wanting want.op want.marked = rw (b, eq-self line) in
+              let wants : want_on trace.sizes (past.state.share n).want line ≡ wanting want.op want.marked = rw (b, eqb-self line) in
               let no : answered_of trace.sizes past line n ≡ false = writes-answered (home_of trace.sizes line) _ (sound.lines line) n want.op want.marked wants write in
               let t : (length (entries_by n past.served) == suc (past.state.share n).place) ≡ true = grind (arith, nat_tests) in
-              let yes : answered_of trace.sizes past line n ≡ true = rw (b, eq-self line, t) in
+              let yes : answered_of trace.sizes past line n ≡ true = rw (b, eqb-self line, t) in
               let d : true ≡ false = sym yes ∙ no in cc
 
   pub legal-history : IsLegal (history past)

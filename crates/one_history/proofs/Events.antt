@@ -23,11 +23,13 @@ use Rattle.op_model.specs.Shares.{Charge, Share, State, Trace, conflicts, copy_o
 use Rattle.op_model.specs.Tables.Home.{lacks_link, on_get, wants_victim}
 use Rattle.op_model.specs.Tables.Processor.{begin_op, call_in, evict, fits, hit, holds_link, leave_home, leave_remote, reclaim, serves}
 use Rattle.op_model.specs.Tables.Remote.{meets, on_message, row_of}
+use Rattle.op_model.proofs.Plain.{eqb-self, parts_but_last, last_two_parts, second_of_four, err-ok}
+use Rattle.op_model.proofs.Shares.{serves-copy}
 use Rattle.line_invariant.specs.Good.{IsGood}
 use Rattle.line_invariant.specs.Line.{Line, after_row}
 use Rattle.line_invariant.specs.Rows.{IsDoneRight, IsOwnServed, IsOwnWant, IsWantKept, wanting, with_header}
 use Rattle.line_invariant.proofs.Away.{away-begin, away-evict, away-message, same-alone}
-use Rattle.line_invariant.proofs.Basics.{eq-self, if-either}
+use Rattle.line_invariant.proofs.Basics.{if-either}
 use Rattle.line_invariant.proofs.Locals.{good-begin, good-evict, good-hit, good-reclaim, hit-fresh}
 use Rattle.line_invariant.proofs.Served.{idle-answered, wants-empty}
 use Rattle.one_history.specs.Project.{line_words, project}
@@ -38,9 +40,6 @@ use Rattle.one_history.proofs.Rows.{kept-in, sound-called, sound-local, sound-ta
 use Rattle.one_history.proofs.Sets.{room-issue, waits-alone}
 use Rattle.one_history.proofs.Shares.{header-other, header-same, row_past, taken_of}
 use Rattle.one_history.proofs.Sound.{IsServedIn}
-
-no-error : (o : NodeOutcome) (c : Cause) → ◌≡◌ {A = Result NodeOutcome Cause} (Err c) (Ok o) → ⊥
-no-error o c e = cc
 
 -- an eviction or a reclaim serves nothing, begins nothing and brings no copy
 module _ (row : LineShare) (o : Outcome) where
@@ -89,13 +88,10 @@ refuses dst home src alone room Get row get wants =
     (if-either Stays (is_pending row.header) _ _ (λ _. refl) (λ _.
     (if-either Stays (lacks_link room src row.header && room.link_pending) _ _ (λ _. refl) (λ _.
     (if-either Stays (lacks_link room src row.header && room.full) _ _ (λ _. refl) (λ _.
-    (if-either Stays (lacks_link room src row.header) _ _ (λ _. refl) (λ has. absurd (never (is_pending row.header) (lacks_link room src row.header) room.link_pending room.full wants has)))))))))) (λ _. refl)
+    (if-either Stays (lacks_link room src row.header) _ _ (λ _. refl) (λ has. absurd (second_of_four (is_pending row.header) (lacks_link room src row.header) room.link_pending room.full wants has)))))))))) (λ _. refl)
   where
     Stays : Outcome → Type 0
     Stays o = o.share ≡ row
-
-    never : (a b c d : Bool) → (not a && b && not c && not d) ≡ true → b ≡ false → ⊥
-    never a b c d e f = grind arith
 refuses dst home src alone room GetX row get wants = cc
 refuses dst home src alone room (FwdGet r) row get wants = cc
 refuses dst home src alone room (FwdGetX r) row get wants = cc
@@ -119,12 +115,6 @@ header-kept sizes at_home line done row share same g = go (g == line) refl at_ho
     go c e false = header-other sizes false line done row share g (inr refl)
     go false e true = let other : g ≢ line = grind (arith, nat_tests) in header-other sizes true line done row share g (inl other)
 
-first3 : (a b c : Bool) → (a && b && not c) ≡ true → (a ≡ true) × (b ≡ true) × (c ≡ false)
-first3 a b c e = (grind arith, grind arith, grind arith)
-
-last2 : (a b c : Bool) → (a && b && c) ≡ true → (b ≡ true) × (c ≡ true)
-last2 a b c e = (grind arith, grind arith)
-
 pub hit-away : (op : Op) (s : LineShare) (h : Header) → hit op (record s { header = h }) ≡ with_header h (hit op s)
 unfolding hit
 hit-away op s h = refl
@@ -147,7 +137,7 @@ module _ (charge : Charge) (trace : Trace) (positive : 0 < trace.sizes.words) (p
   Keeps node off r = (o : NodeOutcome) → r ≡ Ok o → IsSound trace (past_after trace.sizes past (record { node = node; out = o; off = off }))
 
   keeps-error : (node : ℕ) (off : Off) (c : Cause) → Keeps node off (Err c)
-  keeps-error node off c o e = absurd (no-error o c e)
+  keeps-error node off c o e = absurd (err-ok c o e)
 
   keeps-ok : (node : ℕ) (off : Off) (x : NodeOutcome) → IsSound trace (past_after trace.sizes past (record { node = node; out = x; off = off })) → Keeps node off (Ok x)
   keeps-ok node off x s o e = let is : x ≡ o = cc in subst (λ y. IsSound trace (past_after trace.sizes past (record { node = node; out = y; off = off }))) is s
@@ -188,9 +178,6 @@ module _ (charge : Charge) (trace : Trace) (positive : 0 < trace.sizes.words) (p
   unfolding hit
   hit-is op row node line none same is free idle = ((same, is, inl free, idle), (none, refl), rw none tt)
 
-  serves-none : (op : Op) (copy : Copy) → serves op copy ≡ true → copy ≡ Absent → ⊥
-  serves-none op copy s e = let f : serves op Absent ≡ true = rw e at s in cc
-
   keeps-hit : (node : ℕ) (next : Op) → slice_get (program trace node) (share node).place ≡ Some next → is_outstanding (share node).want ≡ false → Keeps node none_off (hit_next sizes node (share node) next)
   unfolding project
   keeps-hit node next is free =
@@ -202,7 +189,7 @@ module _ (charge : Charge) (trace : Trace) (positive : 0 < trace.sizes.words) (p
           let fine = hit-is op (share_at sizes state node line) node line none.1 (hit-fresh (home_of sizes line) (line_at_all line) (sound.lines line) node op serve) is none.0 (none-served node line none.1) in
           keeps-row node line _ _ (own-row sizes state node line (hit op) (λ apart s h. hit-away op s h))
           (sound-local trace positive past sound node line (hit op (share_at sizes state node line)) (good-hit (home_of sizes line) (line_at_all line) (sound.lines line) node op serve)
-          fine.0 fine.1 fine.2 (inl (λ e n. absurd (serves-none op (copy_of (share node) line) serve e))) (inl none.0))
+          fine.0 fine.1 fine.2 (inl (λ e n. absurd (serves-copy op (copy_of (share node) line) serve e))) (inl none.0))
 
   keeps-issue : (node : ℕ) (next : Op) → slice_get (program trace node) (share node).place ≡ Some next → is_outstanding (share node).want ≡ false → Keeps node none_off (issue_next charge sizes node (share node) next)
   unfolding project
@@ -300,15 +287,15 @@ module _ (charge : Charge) (trace : Trace) (positive : 0 < trace.sizes.words) (p
 
       stays : asks_victim charge sizes dst (share dst) src m ≡ true → (taking charge sizes dst (share dst) src m).share ≡ line_share sizes (share dst) (msg_line m)
       stays w =
-          let want = last2 (meets_row sizes dst (share dst) src m) (is_get (msg_content m)) (wants_victim (room_of charge sizes (share dst)) src (line_share sizes (share dst) (msg_line m)).header) w in
+          let want = last_two_parts (meets_row sizes dst (share dst) src m) (is_get (msg_content m)) (wants_victim (room_of charge sizes (share dst)) src (line_share sizes (share dst) (msg_line m)).header) w in
           refuses dst (home_of sizes (msg_line m)) src (is_set_empty sizes (share dst) (msg_line m)) (room_of charge sizes (share dst)) (msg_content m) (line_share sizes (share dst) (msg_line m)) want.0 want.1
 
       victims : (g : ℕ) → asks_victim charge sizes dst (share dst) src m ≡ true → fits_victim charge sizes dst (share dst) g ≡ true → IsSound trace (past_after trace.sizes past (record { node = dst; out = and_call sizes dst g row; off = off }))
       victims g w fit =
           let next : Past = past_after trace.sizes past (record { node = dst; out = row; off = off }) in
-          let fits = first3 (home_of sizes g == dst) (holds_link (room_of charge sizes (share dst)) (header_of sizes (share dst) g)) (is_pending (header_of sizes (share dst) g)) fit in
+          let fits = parts_but_last (home_of sizes g == dst) (holds_link (room_of charge sizes (share dst)) (header_of sizes (share dst) g)) (is_pending (header_of sizes (share dst) g)) fit in
           let same : dst ≡ home_of sizes g = home-is g fits.0 in
-          let share_is : next.state.share dst ≡ row.share = ap (λ c. cond c row.share (share dst)) (eq-self dst) in
+          let share_is : next.state.share dst ≡ row.share = ap (λ c. cond c row.share (share dst)) (eqb-self dst) in
           let header : header_of sizes (next.state.share (home_of sizes g)) g ≡ header_of sizes (share dst) g =
           ap (λ k. header_of sizes (next.state.share k) g) (sym same) ∙ ap (λ p. header_of sizes p g) share_is ∙ header-kept sizes (dst == home_of sizes (msg_line m)) (msg_line m) (taking charge sizes dst (share dst) src m).done (taking charge sizes dst (share dst) src m).share (share dst) (stays w) g in
           let called = sound-called trace positive next one dst g (room_of charge sizes (share dst)) same (ap (holds_link (room_of charge sizes (share dst))) header ∙ fits.1) (ap is_pending header ∙ fits.2) in

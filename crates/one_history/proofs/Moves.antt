@@ -20,6 +20,7 @@ use Rattle.op_model.specs.Run.History.{IsStart, NeverStarts, is_completed}
 use Rattle.op_model.specs.Run.Runs.{Past, past_after, run_from}
 use Rattle.op_model.specs.Shares.{Charge, Share, State, Trace, conflicts, is_set_empty, line_share, program, put_share, room_of, want_after, want_on}
 use Rattle.op_model.specs.Tables.Processor.{begin_op, evict, hit, reclaim, serves}
+use Rattle.op_model.proofs.Shares.{want-stays, free-want, none-on}
 use Rattle.line_invariant.specs.Rows.{IsDoneRight}
 use Rattle.line_invariant.proofs.Away.{begin-ends, stays-still}
 use Rattle.line_invariant.proofs.Basics.{if-either}
@@ -48,24 +49,9 @@ put-rests sizes at_home line true row share h none = absurd (let d = (h none).0 
 put-rests sizes at_home line false row share h none = (refl, ap (λ b. want_after sizes b line row.want) none ∙ (h none).1)
 
 -- what isn't done keeps the place
-put-stays : (sizes : Sizes) (at_home : Bool) (line : ℕ) (done : Bool) (row : LineShare) (share : Share) → done ≡ false → (put_share sizes at_home line done row share).place ≡ share.place
+pub put-stays : (sizes : Sizes) (at_home : Bool) (line : ℕ) (done : Bool) (row : LineShare) (share : Share) → done ≡ false → (put_share sizes at_home line done row share).place ≡ share.place
 unfolding put_share
 put-stays sizes at_home line done row share still = ap (λ c. cond c (suc share.place) share.place) still
-
-begun-same : (sizes : Sizes) (begun : Option Want) (line : ℕ) → want_after sizes begun line (want_on sizes begun line) ≡ begun
-begun-same sizes None line = refl
-begun-same sizes (Some want) line = go (line_of sizes want.op.word == line)
-  where
-    go : (c : Bool) → cond c (cond c (Some want) None) (Some want) ≡ Some want
-    go true = refl
-    go false = refl
-
-free : (begun : Option Want) → is_outstanding begun ≡ false → begun ≡ None
-free None e = refl
-free (Some want) e = cc
-
-wants-none : (sizes : Sizes) (begun : Option Want) (line : ℕ) → begun ≡ None → want_on sizes begun line ≡ None
-wants-none sizes begun line e = ap (λ b. want_on sizes b line) e
 
 ended : (service : Service) (done : Bool) (want : Option Want) → IsDoneRight (Unit {0}) service done want → done ≡ true → want ≡ None
 ended NoService true want h e = h.0
@@ -85,12 +71,12 @@ module _ (charge : Charge) (sizes : Sizes) (me : ℕ) (share : Share) where
 
   goes-next : (P : Share → Share → Type 0) (o : Option Op) (f : Op → Result NodeOutcome Cause) → ((next : Op) → share.want ≡ None → Goes P (f next)) → Goes P (with_next share o f)
   goes-next P None f each = goes-error P NoOp
-  goes-next P (Some next) f each = if-either (Goes P) (is_outstanding share.want) _ _ (λ _. goes-error P Outstanding) (λ e. each next (free share.want e))
+  goes-next P (Some next) f each = if-either (Goes P) (is_outstanding share.want) _ _ (λ _. goes-error P Outstanding) (λ e. each next (free-want share.want e))
 
   hit-moves : (next : Op) → share.want ≡ None → Goes Moved (hit_next sizes me share next)
   unfolding hit
   hit-moves next none = if-either (Goes Moved) (serves next (line_share sizes share (line_of sizes next.word)).copy) _ _
-      (λ _. goes-ok Moved _ (put-moved sizes (me == home_of sizes (line_of sizes next.word)) (line_of sizes next.word) true _ share (λ _. (wants-none sizes share.want (line_of sizes next.word) none, inl none)))) (λ _. goes-error Moved Miss)
+      (λ _. goes-ok Moved _ (put-moved sizes (me == home_of sizes (line_of sizes next.word)) (line_of sizes next.word) true _ share (λ _. (none-on sizes share.want (line_of sizes next.word) none, inl none)))) (λ _. goes-error Moved Miss)
 
   issue-moves : (next : Op) → share.want ≡ None → Goes Moved (issue_next charge sizes me share next)
   issue-moves next none =
@@ -100,14 +86,14 @@ module _ (charge : Charge) (sizes : Sizes) (me : ℕ) (share : Share) where
     where
       begins : (line : ℕ) (op : Op) (r : Result Outcome Cause) → begin_op me (home_of sizes line) (room_of charge sizes share) op (line_share sizes share line) ≡ r → Goes Moved (map_ok (by_row sizes me share line) r)
       begins line op (Err c) e = goes-error Moved c
-      begins line op (Ok o) e = goes-ok Moved (by_row sizes me share line o) (put-moved sizes (me == home_of sizes line) line o.done o.share share (λ done. (begin-ends me (home_of sizes line) (room_of charge sizes share) op (line_share sizes share line) (wants-none sizes share.want line none) o e done, inl none)))
+      begins line op (Ok o) e = goes-ok Moved (by_row sizes me share line o) (put-moved sizes (me == home_of sizes line) line o.done o.share share (λ done. (begin-ends me (home_of sizes line) (room_of charge sizes share) op (line_share sizes share line) (none-on sizes share.want line none) o e done, inl none)))
 
   -- an eviction or a reclaim
   quiet-moved : (line : ℕ) (o : Outcome) → o.done ≡ false → Moved share (by_row sizes me share line o).share
   quiet-moved line o still = inl (put-stays sizes (me == home_of sizes line) line o.done o.share share still)
 
   quiet-rests : (line : ℕ) (o : Outcome) → o.done ≡ false → o.share.want ≡ want_on sizes share.want line → Rests share (by_row sizes me share line o).share
-  quiet-rests line o still same = put-rests sizes (me == home_of sizes line) line o.done o.share share (λ none. (still, same ∙ wants-none sizes share.want line none))
+  quiet-rests line o still same = put-rests sizes (me == home_of sizes line) line o.done o.share share (λ none. (still, same ∙ none-on sizes share.want line none))
 
   evict-goes : (P : Share → Share → Type 0) (line : ℕ) (kind : EvictKind) (room : Bool) → ((o : Outcome) → o.done ≡ false → o.share.want ≡ want_on sizes share.want line → P share (by_row sizes me share line o).share) → Goes P (evict_line sizes me share line kind room)
   evict-goes P line kind room each = go (evict me (home_of sizes line) kind (line_share sizes share line)) refl
@@ -137,7 +123,7 @@ module _ (charge : Charge) (sizes : Sizes) (me : ℕ) (share : Share) where
 
   take-rests : (src : ℕ) (m : Msg) → Rests share (by_row sizes me share (msg_line m) (taking charge sizes me share src m)).share
   take-rests src m = put-rests sizes (me == home_of sizes (msg_line m)) (msg_line m) (taking charge sizes me share src m).done (taking charge sizes me share src m).share share (λ none.
-      let w = wants-none sizes share.want (msg_line m) none in (
+      let w = none-on sizes share.want (msg_line m) none in (
         stays-still me (home_of sizes (msg_line m)) src (is_set_empty sizes share (msg_line m)) (room_of charge sizes share) (line_share sizes share (msg_line m)) w (msg_content m),
         kept-fits (want_on sizes share.want (msg_line m)) _ (keeps-want me (home_of sizes (msg_line m)) src (is_set_empty sizes share (msg_line m)) (room_of charge sizes share) (line_share sizes share (msg_line m)) (msg_content m)) w,
       ))
@@ -149,7 +135,7 @@ module _ (charge : Charge) (sizes : Sizes) (me : ℕ) (share : Share) where
 
   call-begun : (victim : ℕ) (out : NodeOutcome) → (and_call sizes me victim out).share.want ≡ out.share.want
   unfolding put_share
-  call-begun victim out = begun-same sizes out.share.want victim
+  call-begun victim out = want-stays sizes out.share.want victim
 
   call-moved : (victim : ℕ) (out : NodeOutcome) → Moved share out.share → Moved share (and_call sizes me victim out).share
   call-moved victim out (inl e) = inl (call-place victim out ∙ e)

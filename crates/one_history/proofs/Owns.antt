@@ -13,10 +13,10 @@ use Rattle.op_model.specs.Messages.{msg_class, same_class}
 use Rattle.op_model.specs.Run.Runs.{Past, past_after}
 use Rattle.op_model.specs.Shares.{Lanes, Share, State, Trace, header_of, line_share, put_share, share_at}
 use Rattle.op_model.specs.Tables.Processor.{call_in}
+use Rattle.op_model.proofs.Plain.{eqb-self}
+use Rattle.op_model.proofs.Shares.{same_class-is}
 use Rattle.line_invariant.specs.Rows.{with_header, with_header_ok}
-use Rattle.line_invariant.proofs.Basics.{eq-self}
 use Rattle.one_history.proofs.Shares.{row_past, taken_of}
-use Rattle.one_history.proofs.Project.{one_class}
 
 -- an outcome by the node's own share, and by a share with the home's header: they may differ in the header, elsewhere than at the home
 abbrev pub IsOwn : Sizes → ℕ → ℕ → Outcome → Outcome → Type 0
@@ -82,7 +82,7 @@ one-dropped state src dst class m rest front a b k = go (b == dst) (a == src) (s
     go true true true x y z =
         let is_to : b ≡ dst = grind (arith, nat_tests) in
         let is_from : a ≡ src = grind (arith, nat_tests) in
-        let is_class : k ≡ class = one_class k class z in
+        let is_class : k ≡ class = same_class-is k class z in
         let same : state.lane a b k ≡ state.lane src dst class = (λ i. state.lane (is_from i) (is_to i) (is_class i)) in
         ap (drop 1) (same ∙ front)
     go true true false x y z = refl
@@ -109,7 +109,7 @@ module _ (trace : Trace) (past : Past) (dst victim : ℕ) (out : NodeOutcome) (o
   called share = by_row sizes dst share victim (call_in (line_share sizes share victim))
 
   part-is : first.state.share dst ≡ out.share
-  part-is = ap (λ c. cond c out.share (past.state.share dst)) (eq-self dst)
+  part-is = ap (λ c. cond c out.share (past.state.share dst)) (eqb-self dst)
 
   pub call-past : past_after trace.sizes past (record { node = dst; out = and_call sizes dst victim out; off = off })
       ≡ past_after trace.sizes first (record { node = dst; out = called (first.state.share dst); off = none_off })

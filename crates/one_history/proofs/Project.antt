@@ -4,7 +4,6 @@ use Rattle.std.proofs.Common.{◌≡◌, ◌≢◌, ℕ, Bool, true, false, cond
 use Rattle.std.proofs.lemmas.Bool.Decides.{nat_tests}
 use Rattle.line_map.specs.Sizes.{Sizes, home_of}
 use Rattle.op_model.specs.declared.events.Class.{Class}
-use Rattle.op_model.specs.declared.events.Class.TheVariants.{Reply, Request}
 use Rattle.op_model.specs.declared.messages.Msg.{Msg}
 use Rattle.op_model.specs.Events.Node.{messages}
 use Rattle.op_model.specs.Events.Step.{put_at, to_lane}
@@ -12,6 +11,7 @@ use Rattle.op_model.specs.Lines.{Outcome}
 use Rattle.op_model.specs.Messages.{msg_line, same_class}
 use Rattle.op_model.specs.Operations.{Words}
 use Rattle.op_model.specs.Shares.{Share, State, copy_of, header_of, put_share, want_on}
+use Rattle.op_model.proofs.Shares.{same_class-is}
 use Rattle.line_invariant.specs.Line.{Line, addressed, after_row, answered_after, taken, words_after}
 use Rattle.one_history.specs.Project.{of_line, project}
 use Rattle.one_history.proofs.Shares.{IsOn, after_row_of, copy-other, copy-same, header-other, header-same, of_line-append, of_line-behind, of_line-other, of_line-same, taken_of, want-other, want-same}
@@ -71,12 +71,6 @@ module _ (sizes : Sizes) (state : State) (words : Words) (answered : ℕ → Boo
       none_of a b class true = of_line-other line q b class outcome.sends other
       none_of a b class false = refl
 
-pub one_class : (k class : Class) → same_class k class ≡ true → k ≡ class
-one_class Request Request e = refl
-one_class Reply Reply e = refl
-one_class Request Reply e = cc
-one_class Reply Request e = cc
-
 module _ (sizes : Sizes) (state : State) (words : Words) (answered : ℕ → Bool) (src dst : ℕ) (class : Class) (rest : List Msg) where
   pub project-taken : (line : ℕ) → project sizes (record state { lane = taken_of src dst class rest state.lane }) words answered line ≡ record (project sizes state words answered line) { lane = taken src dst class (of_line line rest) (project sizes state words answered line).lane }
   unfolding project
@@ -103,7 +97,7 @@ module _ (sizes : Sizes) (state : State) (words : Words) (answered : ℕ → Boo
           go true true true x y z =
               let is_src : a ≡ src = grind (arith, nat_tests) in
               let is_dst : b ≡ dst = grind (arith, nat_tests) in
-              let is_class : k ≡ class = one_class k class z in
+              let is_class : k ≡ class = same_class-is k class z in
               let same : state.lane src dst class ≡ state.lane a b k = cc in
               skips ∙ ap (of_line q) same
           go true true false x y z = refl

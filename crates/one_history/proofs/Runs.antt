@@ -1,11 +1,9 @@
 -- Every run is sound, from the start on: at the start no node has a copy, nothing is begun and every line is as it is at first, and
 -- each event keeps what holds.
-use Rattle.std.proofs.Common.{true, false, Bool, cond, unwrap_or, ap, inl, ◌≡◌, ℕ, ◌<◌, List, [], ◌∷◌, ◌+◌, ◌*◌, replicate, get_or, refl, arith, sym, ◌∙◌, subst, Option, Some, None, Result, Ok, Err}
+use Rattle.std.proofs.Common.{true, false, ap, inl, ◌≡◌, ℕ, ◌<◌, List, [], ◌∷◌, ◌+◌, ◌*◌, replicate, get_or, refl, arith, sym, ◌∙◌, subst, Option, Some, None, Result, Ok, Err}
 use Rattle.std.proofs.lemmas.List.{ext_get_or, get_or-replicate}
 use Rattle.std.proofs.lemmas.List.FromFn.{get_or-map-range_with_len, length-map-range_with_len}
 use Rattle.std.proofs.Math.ListN.{length-replicate}
-use Rattle.std.specs.Ordering.{nat_cmp, eq_by_cmp}
-use Rattle.std.specs.Cmp.{nat_cmp_total}
 use Rattle.std.specs.List.{range_with_len}
 use Rattle.std.specs.FinMap as fin
 use Rattle.std.specs.FinMap.{gets}
@@ -17,7 +15,8 @@ use Rattle.op_model.specs.Flat.{flat_at}
 use Rattle.op_model.specs.Lines.{Absent}
 use Rattle.op_model.specs.Run.History.{entries_by}
 use Rattle.op_model.specs.Run.Runs.{Past, past_after, run, run_from, start, start_share}
-use Rattle.op_model.specs.Shares.{Charge, Trace, copy_of, first_header, first_headers, header_of, program, header_in}
+use Rattle.op_model.specs.Shares.{Charge, Trace, copy_of, first_header, header_of, program, header_in}
+use Rattle.op_model.proofs.Shares.{first_headers-same}
 use Rattle.line_invariant.specs.Good.{IsGood}
 use Rattle.line_invariant.specs.Line.{first_line}
 use Rattle.line_invariant.proofs.FirstLine.{good-first}
@@ -30,17 +29,9 @@ pub first-copy : (sizes : Sizes) (node line : ℕ) → copy_of (start_share size
 unfolding copy_of
 first-copy sizes node line = grind (arith, gets)
 
-firsts : (sizes : Sizes) (lines : List ℕ) (q : ℕ) → unwrap_or (fin.get (first_headers sizes lines) q) (first_header sizes) ≡ first_header sizes
-firsts sizes [] q = grind (arith, gets)
-firsts sizes (line ∷ lines) q = ap (λ o. unwrap_or o (first_header sizes)) (fin.get-insert nat_cmp_total (first_headers sizes lines) line (first_header sizes) q) ∙ go (eq_by_cmp nat_cmp q line) (firsts sizes lines q)
-  where
-    go : (c : Bool) → unwrap_or (fin.get (first_headers sizes lines) q) (first_header sizes) ≡ first_header sizes → unwrap_or (cond c (Some (first_header sizes)) (fin.get (first_headers sizes lines) q)) (first_header sizes) ≡ first_header sizes
-    go true e = refl
-    go false e = e
-
 pub first-header : (sizes : Sizes) (node line : ℕ) → header_of sizes (start_share sizes node) line ≡ first_header sizes
 unfolding header_in
-first-header sizes node line = firsts sizes (range_with_len (node * sizes.lines) sizes.lines) line
+first-header sizes node line = first_headers-same sizes (range_with_len (node * sizes.lines) sizes.lines) line
 
 first-words : (size line : ℕ) → words_at size fin.empty line ≡ replicate size 0
 unfolding words_at

@@ -12,6 +12,7 @@ use Rattle.op_model.specs.declared.operations.Op.{Op}
 use Rattle.op_model.specs.declared.state.Want.{Want}
 use Rattle.op_model.specs.Lines.{Absent, Copy, LineShare, is_empty}
 use Rattle.op_model.specs.Shares.{Share, conflicts, copy_of, is_set_empty, put_share, want_after, want_on}
+use Rattle.op_model.proofs.Shares.{empty-copy}
 use Rattle.line_invariant.specs.Rows.{wanting}
 use Rattle.one_history.specs.Sound.{IsCached, is_begun_on, is_kept}
 use Rattle.one_history.proofs.Shares.{IsOn, copy-other, copy-same}
@@ -40,9 +41,6 @@ found share q has = go (fin.get share.copies q) (fin.get-entries share.copies q)
     go : (o : Option Copy) → o ≡ find nat_cmp q (fin.entries share.copies) → is_empty (unwrap_or o Absent) ≡ false → (copy : Copy) × (find nat_cmp q (fin.entries share.copies) ≡ Some copy)
     go None e has = cc
     go (Some copy) e has = (copy, sym e)
-
-copy-is-none : (copy : Copy) → is_empty copy ≡ true → copy ≡ Absent
-copy-is-none copy e = grind arith
 
 pub none-conflicts : (sizes : Sizes) (share : Share) (line b : ℕ) → conflicts sizes share line ≡ false → b ≢ line → set_of sizes b ≡ set_of sizes line → is_empty (copy_of share b) ≡ true
 unfolding copy_of
@@ -147,7 +145,7 @@ module _ (sizes : Sizes) (at_home : Bool) (line : ℕ) (done : Bool) (row : Line
       go false d e f = refl
       go true true e f = refl
       go true false e f =
-          let s = stays (copy-is-none (copy_of share line) e) (begun-none sizes share.want line f) in
+          let s = stays (empty-copy (copy_of share line) e) (begun-none sizes share.want line f) in
           let copy : is_empty (copy_of next line) ≡ true = ap is_empty (copy-same sizes at_home line done row share ∙ s.0) in
           let begun : is_begun_on sizes (want_after sizes share.want line row.want) line ≡ false = ap (λ w. is_begun_on sizes (want_after sizes share.want line w) line) s.1 ∙ begun-here share.want in
           let no : is_kept sizes next line ≡ false = (λ i. not (copy i) || begun i) in

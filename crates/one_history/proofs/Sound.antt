@@ -14,10 +14,10 @@ use Rattle.op_model.specs.Operations.{Words, entry_of}
 use Rattle.op_model.specs.Run.History.{IsNext, entries_by}
 use Rattle.op_model.specs.Run.Runs.{Past, entries_of, entry_for}
 use Rattle.op_model.specs.Shares.{Lanes, Share, Trace, program, put_share, want_on}
+use Rattle.op_model.proofs.Plain.{eqb-self}
 use Rattle.line_invariant.specs.Good.{IsGood}
 use Rattle.line_invariant.specs.Line.{after_row, answered_after, words_after}
 use Rattle.line_invariant.specs.Rows.{IsDoneRight, IsLoadWanted, wanting}
-use Rattle.line_invariant.proofs.Basics.{eq-self}
 use Rattle.line_invariant.proofs.LocalNodes.{after-load}
 use Rattle.line_invariant.proofs.Served.{idle-answered}
 use Rattle.one_history.specs.Project.{line_words, project, words_at}
@@ -218,7 +218,7 @@ module _ (trace : Trace) (positive : 0 < trace.sizes.words) (past : Past) (sound
 
       idle : outcome.share.want ≡ None → outcome.done ≡ false → answered_of sizes past line node ≡ false
       idle none still = not-yet trace past node line outcome.served outcome.done outcome.share.want well right still
-          (idle-answered (home_of sizes line) _ good node (rw (eq-self node) none))
+          (idle-answered (home_of sizes line) _ good node (rw (eqb-self node) none))
 
       fine : (n : ℕ) → IsOrdered trace n (next.state.share n) (entries_by n next.served) × ((q : ℕ) → q ≢ line → answered_of sizes next q n ≡ answered_of sizes past q n) × (answered_of sizes next line n ≡ answered_after node outcome.served outcome.done (answered_of sizes past line) n)
       fine n = all-fine trace positive past sound node line (node == home_of sizes line) outcome.share outcome.served outcome.done well right begins idle n

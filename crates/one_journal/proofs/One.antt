@@ -1,14 +1,14 @@
 -- Two journals of the same logs have the same event at each place, and so they are one list.
-use Rattle.std.proofs.Common.{◌≡◌, ℕ, zero, suc, ◌<◌, Bool, true, false, cond, ◌==◌, nat_lt, List, [], ◌∷◌, length, slice_get, refl, sym, ap, ◌∙◌, subst, arith, Option, Some, None}
+use Rattle.std.proofs.Common.{◌≡◌, ℕ, suc, ◌<◌, Bool, true, false, cond, ◌==◌, nat_lt, List, [], ◌∷◌, length, slice_get, refl, sym, ap, ◌∙◌, subst, arith, Option, Some, None}
 use Rattle.std.proofs.lemmas.Bool.Decides.{nat_tests}
 use Rattle.std.proofs.lemmas.List.Elements.{All-contains_itself, All-head, All-tail}
 use Rattle.std.specs.List.{All, Contains}
 use Rattle.op_model.specs.declared.events.Event.{Event}
 use Rattle.op_model.specs.declared.events.Numbered.{Numbered}
 use Rattle.op_model.specs.Events.Step.{put_at}
-use Rattle.op_model.specs.Run.Weight.{total}
 use Rattle.op_model.specs.Parts.Journal.{Agrees, IsJournal, IsJournalOf, drawn}
 use Rattle.op_model.specs.Parts.Part.{Part}
+use Rattle.op_model.proofs.Plain.{total-alike}
 use Rattle.one_journal.specs.SameLogs.{AreAmong, AreListed, IsMerged}
 use Rattle.one_journal.proofs.Drawn.{Each, of-sum, of-total, stands}
 
@@ -78,11 +78,6 @@ merged_is nodes logs list journal other listed is was =
 -- there is only one list that logs are merged into
 pub only_is : (list : List (List Numbered)) (journal other : List Event) → IsMerged list journal → IsMerged list other → journal ≡ other
 only_is list journal other is was = one-of (Contains list) (Contains list) journal other (λ log in_it. in_it) (λ log in_it. in_it) (by-list list journal is) (by-list list other was)
-
-pub total-alike : (f g : ℕ → ℕ) (n : ℕ) → ((i : ℕ) → i < n → g i ≡ f i) → total g n ≡ total f n
-unfolding total
-total-alike f g zero same = refl
-total-alike f g (suc n) same = let rest = total-alike f g n (λ i less. same i (omega arith)) in let last = same n (omega arith) in omega arith
 
 pub same_logs : (nodes : ℕ) (logs rest : ℕ → List Numbered) (journal : List Event) → ((node : ℕ) → node < nodes → rest node ≡ logs node) → IsJournalOf nodes logs journal → IsJournalOf nodes rest journal
 same_logs nodes logs rest journal same is =

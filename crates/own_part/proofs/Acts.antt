@@ -1,63 +1,37 @@
 -- Whatever a node does by itself, and each message that it takes, keeps what holds of its share.
-use Rattle.std.proofs.Common.{◌≡◌, ◌≢◌, inl, inr, ℕ, Bool, true, false, cond, nat_le, ◌==◌, ◌&&◌, not, slice_get, List, refl, arith, sym, ap, subst, ◌∙◌, Option, Some, None, Result, Ok, Err}
+use Rattle.std.proofs.Common.{◌≡◌, ◌≢◌, inl, inr, ℕ, Bool, true, false, cond, nat_le, ◌==◌, ◌&&◌, not, slice_get, List, refl, sym, ap, subst, ◌∙◌, Option, Some, None, Result, Ok, Err}
+use Rattle.std.proofs.lemmas.Bool.{not-false}
 use Rattle.line_map.specs.Sizes.{Sizes, home_of, line_of, set_of}
 use Rattle.op_model.specs.declared.events.Cause.{Cause}
 use Rattle.op_model.specs.declared.events.Cause.TheVariants.{LaneGate}
 use Rattle.op_model.specs.declared.events.EvictKind.{EvictKind}
 use Rattle.op_model.specs.declared.messages.Msg.{Msg}
 use Rattle.op_model.specs.declared.operations.Op.{Op}
-use Rattle.op_model.specs.declared.state.Want.{Want}
 use Rattle.op_model.specs.Events.Node.{EvictLine, HitNext, Input, IssueNext, NodeOutcome, ReclaimLine, TakeFrom, and_call, asks_victim, bind, by_row, departs, evict_line, fits_victim, hit_next, is_get, is_outstanding, issue_next, local, map_ok, meets_row, take_from, taking, with_next, with_victim}
-use Rattle.op_model.specs.Lines.{Absent, Copy, Exclusive, Header, LineShare, Outcome, Room, Shared, is_empty, is_pending}
+use Rattle.op_model.specs.Lines.{LineShare, Outcome, Room, is_empty, is_pending}
 use Rattle.op_model.specs.Messages.{msg_content, msg_line}
 use Rattle.op_model.specs.OwnPart.{IsOwnLine, IsOwnPart}
 use Rattle.op_model.specs.Shares.{Charge, Share, conflicts, copy_of, header_of, is_set_empty, line_share, pending_lines, room_of, want_on}
-use Rattle.op_model.specs.Tables.Home.{lacks_link, wants_victim}
+use Rattle.op_model.specs.Tables.Home.{wants_victim}
 use Rattle.op_model.specs.Tables.Processor.{begin_op, call_in, evict, hit, holds_link, reclaim, serves}
+use Rattle.op_model.proofs.Plain.{parts_but_last, last_two_parts, err-ok}
+use Rattle.op_model.proofs.Shares.{free-want, serves-copy}
 use Rattle.line_invariant.proofs.Basics.{if-either}
 use Rattle.one_history.proofs.Events.{header-kept, refuses}
 use Rattle.one_history.proofs.Sets.{none-conflicts}
-use Rattle.lane_bounds.proofs.Allowed.{IsAllowed, begin-allowed, evict-allowed, hit-allowed, message-allowed}
+use Rattle.lane_bounds.proofs.Allowed.{begin-allowed, evict-allowed, hit-allowed, message-allowed}
 use Rattle.lane_bounds.proofs.Homes.{pending-stays}
-use Rattle.own_part.proofs.Basics.{turned-back}
+use Rattle.lane_bounds.proofs.Events.{not-full, call-allowed}
 use Rattle.own_part.proofs.BegunRows.{begun-row, effect-row, free-row, quiet-row}
 use Rattle.own_part.proofs.OwnRows.{begin-keeps, call-keeps, call-quiet, evict-keeps, hit-keeps}
 use Rattle.own_part.proofs.TakeRows.{message-keeps}
-
-no-error : (o : NodeOutcome) (c : Cause) → ◌≡◌ {A = Result NodeOutcome Cause} (Err c) (Ok o) → ⊥
-no-error o c e = cc
-
-free-want : (want : Option Want) → is_outstanding want ≡ false → want ≡ None
-free-want None e = refl
-free-want (Some want) e = absurd (cc)
-
-has-copy : (op : Op) (copy : Copy) → serves op copy ≡ true → copy ≡ Absent → ⊥
-has-copy op Absent e none = cc
-has-copy op (Shared words) e none = cc
-has-copy op (Exclusive words) e none = cc
-
-first3 : (a b c : Bool) → (a && b && not c) ≡ true → (a ≡ true) × (b ≡ true) × (c ≡ false)
-first3 a b c e = (grind arith, grind arith, grind arith)
-
-last2 : (a b c : Bool) → (a && b && c) ≡ true → (b ≡ true) × (c ≡ true)
-last2 a b c e = (grind arith, grind arith)
-
-not-full : (room : Room) (src : ℕ) (header : Header) → wants_victim room src header ≡ true → room.full ≡ false
-unfolding wants_victim
-not-full room src header e = go (is_pending header) (lacks_link room src header) room.link_pending room.full e
-  where
-    go : (a b c d : Bool) → (not a && b && not c && not d) ≡ true → d ≡ false
-    go a b c d e = grind arith
-
-call-allowed : (room : Room) (row : LineShare) → room.full ≡ false → IsAllowed room row.header (call_in row).share.header
-call-allowed room row free = record { pending = λ a b. free; links = λ _. inl (omega arith) }
 
 module _ (charge : Charge) (sizes : Sizes) (node : ℕ) (program : List Op) (share : Share) (own : IsOwnPart charge sizes node program share) where
   abbrev Keeps : Result NodeOutcome Cause → Type 0
   Keeps r = (out : NodeOutcome) → r ≡ Ok out → IsOwnPart charge sizes node program out.share
 
   keeps-error : (c : Cause) → Keeps (Err c)
-  keeps-error c out e = absurd (no-error out c e)
+  keeps-error c out e = absurd (err-ok c out e)
 
   keeps-ok : (x : NodeOutcome) → IsOwnPart charge sizes node program x.share → Keeps (Ok x)
   keeps-ok x k out e = let is : x ≡ out = cc in subst (λ y. IsOwnPart charge sizes node program y.share) is k
@@ -84,7 +58,7 @@ module _ (charge : Charge) (sizes : Sizes) (node : ℕ) (program : List Op) (sha
   hits line op free serve =
       free-row charge sizes node program share own line (hit op (at line))
       (λ here. hit-keeps (home_of sizes line) op (at line) (own-line line here)) (λ _. hit-allowed room (at line) op)
-      free (none-on line free) (inl (λ none. absurd (has-copy op (copy_of share line) serve none)))
+      free (none-on line free) (inl (λ none. absurd (serves-copy op (copy_of share line) serve none)))
 
   keeps-hit : (next : Op) → share.want ≡ None → Keeps (hit_next sizes node share next)
   keeps-hit next free = if-either Keeps (serves next (copy_of share (line_of sizes next.word))) _ _ (λ serve. keeps-ok _ (hits (line_of sizes next.word) next free serve)) (λ _. keeps-error _)
@@ -134,7 +108,7 @@ module _ (charge : Charge) (sizes : Sizes) (node : ℕ) (program : List Op) (sha
   keeps-reclaim line =
       if-either Gives (not (holds_link room (header_of sizes share line))) _ _ (λ _. keeps-error _) (λ holds.
       (if-either Gives (is_pending (header_of sizes share line)) _ _ (λ _. keeps-error _) (λ free.
-      (if-either Gives room.full _ _ (λ _. keeps-error _) (λ more. keeps-ok (by_row sizes node share line (call_in (at line))) (calls line free (turned-back (holds_link room (header_of sizes share line)) holds) more))))))
+      (if-either Gives room.full _ _ (λ _. keeps-error _) (λ more. keeps-ok (by_row sizes node share line (call_in (at line))) (calls line free (not-false (holds_link room (header_of sizes share line)) holds) more))))))
     where
       Gives : Result Outcome Cause → Type 0
       Gives r = Keeps (map_ok (by_row sizes node share line) r)
@@ -158,14 +132,14 @@ module _ (charge : Charge) (sizes : Sizes) (node : ℕ) (program : List Op) (sha
 
   stays : asks_victim charge sizes node share src m ≡ true → row.share ≡ line_share sizes share (msg_line m)
   stays asks =
-      let want = last2 (meets_row sizes node share src m) (is_get (msg_content m)) (wants_victim (room_of charge sizes share) src (header_of sizes share (msg_line m))) asks in
+      let want = last_two_parts (meets_row sizes node share src m) (is_get (msg_content m)) (wants_victim (room_of charge sizes share) src (header_of sizes share (msg_line m))) asks in
       refuses node (home_of sizes (msg_line m)) src (is_set_empty sizes share (msg_line m)) (room_of charge sizes share) (msg_content m) (line_share sizes share (msg_line m)) want.0 want.1
 
   -- the line that a Get calls in for want of a link
   victims : (g : ℕ) → asks_victim charge sizes node share src m ≡ true → fits_victim charge sizes node share g ≡ true → IsOwnPart charge sizes node program (and_call sizes node g out).share
   victims g asks fit =
-      let want = last2 (meets_row sizes node share src m) (is_get (msg_content m)) (wants_victim (room_of charge sizes share) src (header_of sizes share (msg_line m))) asks in
-      let fits = first3 (home_of sizes g == node) (holds_link (room_of charge sizes share) (header_of sizes share g)) (is_pending (header_of sizes share g)) fit in
+      let want = last_two_parts (meets_row sizes node share src m) (is_get (msg_content m)) (wants_victim (room_of charge sizes share) src (header_of sizes share (msg_line m))) asks in
+      let fits = parts_but_last (home_of sizes g == node) (holds_link (room_of charge sizes share) (header_of sizes share g)) (is_pending (header_of sizes share g)) fit in
       let header : header_of sizes out.share g ≡ header_of sizes share g = header-kept sizes (node == home_of sizes (msg_line m)) (msg_line m) row.done row.share share (stays asks) g in
       let pending : pending_lines out.share ≡ pending_lines share = pending-stays charge sizes share (node == home_of sizes (msg_line m)) (msg_line m) row.done row.share (λ _. ap (λ s. s.header) (stays asks)) in
       calls charge sizes node program out.share (takes charge sizes node program share own src m) g

@@ -1,9 +1,10 @@
 -- The acknowledgements, the answers of an owner, a writeback and a hint at the home keep what holds of its line by itself.
 use Rattle.std.proofs.Common.{◌≡◌, ◌⊎◌, inl, inr, ℕ, ◌-◌, ◌<◌, Bool, true, false, cond, nat_le, ◌==◌, ◌&&◌, not, refl, arith, sym, ap, subst, ◌∙◌, Option, Some, None}
+use Rattle.std.proofs.Math.Bool.{and-false}
 use Rattle.std.proofs.lemmas.Bool.Decides.{nat_tests}
 use Rattle.op_model.specs.Nodes.{Nodes, listed, unlist, count, none, only, listings}
 use Rattle.op_model.specs.Operations.{Words}
-use Rattle.op_model.specs.Lines.{Absent, LineShare, Outcome, is_idle, is_empty, is_exclusive}
+use Rattle.op_model.specs.Lines.{Absent, LineShare, Outcome, is_idle, is_empty, is_exclusive, is_outstanding}
 use Rattle.op_model.specs.OwnPart.{IsOwnLine, IsOwnWait, IsOwnGrantee}
 use Rattle.op_model.specs.declared.state.Want.{Want}
 use Rattle.op_model.specs.declared.state.Wait.{Wait}
@@ -12,9 +13,10 @@ use Rattle.op_model.specs.declared.state.Grantee.{Grantee}
 use Rattle.op_model.specs.declared.state.Grantee.TheVariants.{Nobody, Me, Node}
 use Rattle.line_invariant.proofs.Basics.{if-either}
 use Rattle.op_model.specs.Tables.Home.{grant, grantee_of, on_inv_ack, on_shwb, on_fack, on_nakc, on_wb, on_rpl, requester_of}
-use Rattle.op_model.specs.Tables.Remote.{waits_any, waits_write, is_invalidate, is_forward, gets_elsewhere, getxs_elsewhere}
-use Rattle.own_part.proofs.Basics.{away-empty, gets, getxs, idle-is, invalidates, none-between, none-last}
-use Rattle.own_part.proofs.Effects.{IsQuiet, IsEnd, waits-so, writes-wait}
+use Rattle.op_model.specs.Tables.Remote.{waits_write, is_invalidate, is_forward, gets_elsewhere, getxs_elsewhere}
+use Rattle.op_model.proofs.Shares.{write-outstanding}
+use Rattle.own_part.proofs.Basics.{away-empty, gets, getxs, idle-is, invalidates, none-between}
+use Rattle.own_part.proofs.Effects.{IsQuiet, IsEnd, waits-so}
 
 abbrev pub Ends : LineShare → Outcome → Type 0
 Ends s o = IsQuiet s o ⊎ IsEnd s o
@@ -31,7 +33,7 @@ count-only n = grind (arith, nat_tests, listings)
 
 -- a line that is idle now and not local isn't exclusive at its home
 not-owned : (s : LineShare) → s.header.local ≡ not (is_empty s.copy) → s.header.local ≡ false → is_exclusive s.copy ≡ (true && s.header.dirty && s.header.local)
-not-owned s local away = ap is_exclusive (away-empty s.header.local s.copy local away) ∙ sym (ap (λ l. true && s.header.dirty && l) away ∙ none-last (true && s.header.dirty))
+not-owned s local away = ap is_exclusive (away-empty s.header.local s.copy local away) ∙ sym (ap (λ l. true && s.header.dirty && l) away ∙ and-false (true && s.header.dirty))
 
 -- an invalidated line: what is left when one more acknowledgement is in
 module _ (home sender : ℕ) (s : LineShare) (own : IsOwnLine home s) (from : listed s.header.list sender ≡ true) where
@@ -62,9 +64,9 @@ module _ (home sender : ℕ) (s : LineShare) (own : IsOwnLine home s) (from : li
             zero-left : (a c : ℕ) → a ≡ c → nat_le a 1 ≡ true → c - 1 ≡ 0
             zero-left a c e le = grind (arith, nat_tests)
 
-        by-want : (want : Option Want) → waits_write want ≡ true → IsOwnLine home (grant Me want rest s).share × ((((grant Me want rest s).share.want ≡ s.want) × ((grant Me want rest s).done ≡ false) × (s.copy ≡ Absent → (grant Me want rest s).share.copy ≡ Absent)) ⊎ (((grant Me want rest s).share.want ≡ None) × (waits_any s.want ≡ true)))
+        by-want : (want : Option Want) → waits_write want ≡ true → IsOwnLine home (grant Me want rest s).share × ((((grant Me want rest s).share.want ≡ s.want) × ((grant Me want rest s).done ≡ false) × (s.copy ≡ Absent → (grant Me want rest s).share.copy ≡ Absent)) ⊎ (((grant Me want rest s).share.want ≡ None) × (is_outstanding s.want ≡ true)))
         by-want None writes = absurd (cc)
-        by-want (Some want) writes = (record { local = refl; unlisted = unlisted-rest; exclusive = refl; waiting = (refl, λ d. gone) }, inr (refl, writes-wait s.want granted.1))
+        by-want (Some want) writes = (record { local = refl; unlisted = unlisted-rest; exclusive = refl; waiting = (refl, λ d. gone) }, inr (refl, write-outstanding s.want granted.1))
 
     more : (g : Grantee) → s.header.wait ≡ Invalidate g → IsOwnGrantee home g s → nat_le s.header.acks 1 ≡ false → IsOwnLine home (record s { header = record s.header { list = rest; acks = s.header.acks - 1 } })
     more g is granted le =

@@ -1,53 +1,26 @@
 -- What tests say that hold or fail, and what a wait is that passes one.
-use Rattle.std.proofs.Common.{◌≡◌, ◌≢◌, ℕ, ◌<◌, Bool, true, false, ◌==◌, ◌&&◌, not, refl, arith, sym, ◌∙◌}
+use Rattle.std.proofs.Common.{◌≡◌, ℕ, ◌<◌, Bool, true, false, ◌==◌, ◌&&◌, not, refl, arith, sym, ◌∙◌}
+use Rattle.std.proofs.lemmas.Bool.{not-true, not-false}
 use Rattle.std.proofs.lemmas.Bool.Decides.{nat_tests}
 use Rattle.op_model.specs.declared.state.Grantee.{Grantee}
 use Rattle.op_model.specs.declared.state.Wait.{Wait}
 use Rattle.op_model.specs.declared.state.Wait.TheVariants.{Idle, Invalidate, ForwardGet, ForwardGetX}
-use Rattle.op_model.specs.Lines.{Copy, Absent, Shared, Exclusive, is_idle, is_empty}
+use Rattle.op_model.specs.Lines.{Copy, Absent, is_idle, is_empty}
 use Rattle.op_model.specs.Tables.Remote.{is_invalidate, gets_elsewhere, getxs_elsewhere}
-
-pub both : (a b : Bool) → (a && b) ≡ true → (a ≡ true) × (b ≡ true)
-both a b e = (grind arith, grind arith)
-
-pub all3 : (a b c : Bool) → (a && b && c) ≡ true → (a ≡ true) × (b ≡ true) × (c ≡ true)
-all3 a b c e = (grind arith, grind arith, grind arith)
+use Rattle.op_model.proofs.Shares.{empty-copy}
 
 pub all4 : (a b c d : Bool) → (a && b && c && d) ≡ true → (a ≡ true) × (b ≡ true) × (c ≡ true) × (d ≡ true)
 all4 a b c d e = (grind arith, grind arith, grind arith, grind arith)
 
-pub turned : (b : Bool) → not b ≡ true → b ≡ false
-turned b e = grind arith
-
-pub turned-back : (b : Bool) → not b ≡ false → b ≡ true
-turned-back b e = grind arith
-
 pub none-between : (a b : Bool) → (a && false && b) ≡ false
 none-between a b = grind arith
-
-pub none-last : (a : Bool) → (a && false) ≡ false
-none-last a = grind arith
-
-pub is-same : (a b : ℕ) → (a == b) ≡ true → a ≡ b
-is-same a b e = grind (arith, nat_tests)
-
-pub same-is : (a b : ℕ) → a ≡ b → (a == b) ≡ true
-same-is a b e = grind (arith, nat_tests)
-
-pub is-other : (a b : ℕ) → (a == b) ≡ false → a ≢ b
-is-other a b e = grind (arith, nat_tests)
 
 pub above-none : (n : ℕ) → (n == 0) ≡ false → 0 < n
 above-none n e = grind (arith, nat_tests)
 
-pub empty-copy : (copy : Copy) → is_empty copy ≡ true → copy ≡ Absent
-empty-copy Absent e = refl
-empty-copy (Shared words) e = absurd (cc)
-empty-copy (Exclusive words) e = absurd (cc)
-
 -- a line that isn't local isn't cached by its home
 pub away-empty : (local : Bool) (copy : Copy) → local ≡ not (is_empty copy) → local ≡ false → copy ≡ Absent
-away-empty local copy e f = empty-copy copy (turned-back (is_empty copy) (sym e ∙ f))
+away-empty local copy e f = empty-copy copy (not-false (is_empty copy) (sym e ∙ f))
 
 pub idle-is : (wait : Wait) → not (is_idle wait) ≡ false → wait ≡ Idle
 idle-is Idle e = refl
@@ -64,11 +37,11 @@ invalidates (ForwardGetX r) e = absurd (cc)
 pub gets : (home : ℕ) (wait : Wait) → gets_elsewhere home wait ≡ true → (r : ℕ) × (wait ≡ ForwardGet r) × ((r == home) ≡ false)
 gets home Idle e = absurd (cc)
 gets home (Invalidate g) e = absurd (cc)
-gets home (ForwardGet r) e = (r, refl, turned (r == home) e)
+gets home (ForwardGet r) e = (r, refl, not-true (r == home) e)
 gets home (ForwardGetX r) e = absurd (cc)
 
 pub getxs : (home : ℕ) (wait : Wait) → getxs_elsewhere home wait ≡ true → (r : ℕ) × (wait ≡ ForwardGetX r) × ((r == home) ≡ false)
 getxs home Idle e = absurd (cc)
 getxs home (Invalidate g) e = absurd (cc)
 getxs home (ForwardGet r) e = absurd (cc)
-getxs home (ForwardGetX r) e = (r, refl, turned (r == home) e)
+getxs home (ForwardGetX r) e = (r, refl, not-true (r == home) e)

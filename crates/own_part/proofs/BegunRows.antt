@@ -1,29 +1,20 @@
 -- What a row leaves of the operation that its node has begun: it stays, perhaps marked now, or has ended, or begins. In each case the
 -- share keeps what holds of it.
 use Rattle.std.proofs.Common.{◌≡◌, ◌≢◌, ◌⊎◌, inl, inr, ℕ, suc, Bool, true, false, cond, ◌==◌, slice_get, List, refl, arith, sym, ap, subst, ◌∙◌, Option, Some, None}
+use Rattle.std.proofs.lemmas.Bool.{eqb-true, eq-eqb, eqb-false}
 use Rattle.std.proofs.lemmas.Bool.Decides.{nat_tests}
 use Rattle.line_map.specs.Sizes.{Sizes, home_of, line_of, set_of}
 use Rattle.op_model.specs.declared.operations.Op.{Op}
 use Rattle.op_model.specs.declared.state.Want.{Want}
 use Rattle.op_model.specs.Operations.{is_load}
-use Rattle.op_model.specs.Lines.{Absent, Outcome, begun, is_empty, marked_load}
+use Rattle.op_model.specs.Lines.{Absent, Outcome, begun, is_empty, marked_load, is_outstanding}
 use Rattle.op_model.specs.OwnPart.{IsOutstanding, IsOwnLine, IsOwnPart}
 use Rattle.op_model.specs.Shares.{Charge, Share, copy_of, header_of, is_set_empty, line_share, put_share, room_of, want_after, want_on}
-use Rattle.op_model.specs.Tables.Remote.{waits_any}
+use Rattle.op_model.proofs.Shares.{empty-copy, want-stays}
 use Rattle.one_history.proofs.Shares.{IsOn, copy-other, copy-same}
 use Rattle.lane_bounds.proofs.Allowed.{IsAllowed}
-use Rattle.own_part.proofs.Basics.{empty-copy, is-other, is-same, same-is}
 use Rattle.own_part.proofs.Effects.{IsQuiet, IsMark, IsEnd, IsEffect}
 use Rattle.own_part.proofs.ShareRows.{AreOthersAway, all-empty, empty-set, next_share, own-row}
-
--- what is begun stays where a row of a line leaves what is begun on it
-want-stays : (sizes : Sizes) (want : Option Want) (line : ℕ) → want_after sizes want line (want_on sizes want line) ≡ want
-want-stays sizes None line = refl
-want-stays sizes (Some want) line = go (line_of sizes want.op.word == line)
-  where
-    go : (c : Bool) → cond c (cond c (Some want) None) (Some want) ≡ Some want
-    go true = refl
-    go false = refl
 
 -- what is begun on a line is of that line
 own-on : (sizes : Sizes) (want : Option Want) (line : ℕ) → IsOn sizes line (want_on sizes want line)
@@ -34,20 +25,17 @@ own-on sizes (Some want) line = go (line_of sizes want.op.word == line) refl
     go true e = grind (arith, nat_tests)
     go false e = tt
 
-none-on : (sizes : Sizes) (want : Option Want) (line : ℕ) → want ≡ None → want_on sizes want line ≡ None
-none-on sizes want line e = ap (λ w. want_on sizes w line) e
-
 -- an operation that a node waits for is of this line
-waited : (sizes : Sizes) (want : Option Want) (line : ℕ) → waits_any (want_on sizes want line) ≡ true → (w : Want) × (want ≡ Some w) × (line_of sizes w.op.word ≡ line)
+waited : (sizes : Sizes) (want : Option Want) (line : ℕ) → is_outstanding (want_on sizes want line) ≡ true → (w : Want) × (want ≡ Some w) × (line_of sizes w.op.word ≡ line)
 waited sizes None line e = absurd (cc)
 waited sizes (Some w) line e = go (line_of sizes w.op.word == line) refl e
   where
-    go : (c : Bool) → (line_of sizes w.op.word == line) ≡ c → waits_any (cond c (Some w) None) ≡ true → (x : Want) × (Some w ≡ Some x) × (line_of sizes x.op.word ≡ line)
-    go true f h = (w, refl, is-same (line_of sizes w.op.word) line f)
+    go : (c : Bool) → (line_of sizes w.op.word == line) ≡ c → is_outstanding (cond c (Some w) None) ≡ true → (x : Want) × (Some w ≡ Some x) × (line_of sizes x.op.word ≡ line)
+    go true f h = (w, refl, eqb-true (line_of sizes w.op.word) line f)
     go false f h = absurd (cc)
 
 gone-after : (sizes : Sizes) (w : Want) (line : ℕ) (next : Option Want) → line_of sizes w.op.word ≡ line → want_after sizes (Some w) line next ≡ next
-gone-after sizes w line next on = ap (λ c. cond c next (Some w)) (same-is (line_of sizes w.op.word) line on)
+gone-after sizes w line next on = ap (λ c. cond c next (Some w)) (eq-eqb (line_of sizes w.op.word) line on)
 
 module _ (charge : Charge) (sizes : Sizes) (node : ℕ) (program : List Op) (share : Share) (own : IsOwnPart charge sizes node program share) (line : ℕ) (o : Outcome)
     (kept : node ≡ home_of sizes line → IsOwnLine (home_of sizes line) o.share)
@@ -78,10 +66,10 @@ module _ (charge : Charge) (sizes : Sizes) (node : ℕ) (program : List Op) (sha
 
           go : (c : Bool) → (b == line) ≡ c → is_empty (copy_of next b) ≡ true
           go true e =
-              let here : b ≡ line = is-same b line e in
+              let here : b ≡ line = eqb-true b line e in
               ap (λ k. is_empty (copy_of next k)) here ∙ ap is_empty (copy-same sizes (node == home_of sizes line) line o.done o.share share ∙ stays (empty-copy (copy_of share line) (ap (λ k. is_empty (copy_of share k)) (sym here) ∙ before)))
           go false e =
-              let other : b ≢ line = is-other b line e in
+              let other : b ≢ line = eqb-false b line e in
               ap is_empty (copy-other sizes (node == home_of sizes line) line o.done o.share share b other) ∙ before
 
   -- the operation stays
@@ -107,7 +95,7 @@ module _ (charge : Charge) (sizes : Sizes) (node : ℕ) (program : List Op) (sha
   marked-outstanding apart stays still (Some w) h = go (line_of sizes w.op.word == line) refl
     where
       there : (line_of sizes w.op.word == line) ≡ true → home_of sizes (line_of sizes w.op.word) ≢ node
-      there e same = apart (sym (sym (ap (home_of sizes) (is-same (line_of sizes w.op.word) line e)) ∙ same))
+      there e same = apart (sym (sym (ap (home_of sizes) (eqb-true (line_of sizes w.op.word) line e)) ∙ same))
 
       mark : (line_of sizes w.op.word == line) ≡ true → (l : Bool) → is_load w.op.kind ≡ l → cond l true w.marked ≡ true → (is_load w.op.kind ≡ true) × (home_of sizes (line_of sizes w.op.word) ≢ node)
       mark e true f m = (f, there e)
@@ -188,8 +176,8 @@ module _ (charge : Charge) (sizes : Sizes) (node : ℕ) (program : List Op) (sha
         where
           go : (c : Bool) → (b == line) ≡ c → is_empty (copy_of next b) ≡ true
           go true e =
-              let here : b ≡ line = is-same b line e in
+              let here : b ≡ line = eqb-true b line e in
               ap (λ k. is_empty (copy_of next k)) here ∙ ap is_empty (copy-same sizes (node == home_of sizes line) line o.done o.share share ∙ bare)
           go false e =
-              let other : b ≢ line = is-other b line e in
+              let other : b ≢ line = eqb-false b line e in
               ap is_empty (copy-other sizes (node == home_of sizes line) line o.done o.share share b other) ∙ away b other (same ∙ ap (set_of sizes) on)

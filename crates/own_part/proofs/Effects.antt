@@ -1,11 +1,9 @@
 -- What a row does to the operation and the copy of its node: it leaves the operation, marks a load, or ends it; and a node that has no copy gets none but with the end of its operation.
-use Rattle.std.proofs.Common.{◌≡◌, ◌≢◌, ◌⊎◌, ℕ, true, false, ◌&&◌, refl, ap, subst, ◌∙◌, Option, Some, None}
-use Rattle.op_model.specs.Lines.{Absent, LineShare, Outcome, is_idle, is_exclusive, marked_load}
+use Rattle.std.proofs.Common.{◌≡◌, ◌≢◌, ◌⊎◌, ℕ, true, false, ◌&&◌, ap, subst, ◌∙◌, None}
+use Rattle.op_model.specs.Lines.{Absent, LineShare, Outcome, is_idle, is_exclusive, marked_load, is_outstanding}
 use Rattle.op_model.specs.OwnPart.{IsOwnLine, IsOwnWait}
-use Rattle.op_model.specs.declared.state.Want.{Want}
 use Rattle.op_model.specs.declared.state.Wait.{Wait}
 use Rattle.op_model.specs.declared.state.Wait.TheVariants.{Idle}
-use Rattle.op_model.specs.Tables.Remote.{waits_load, waits_write, waits_any}
 
 -- the operation stays, and no copy comes
 abbrev pub IsQuiet : LineShare → Outcome → Type 0
@@ -17,7 +15,7 @@ IsMark me home s o = (me ≢ home) × (o.share.want ≡ marked_load s.want) × (
 
 -- an operation that was begun ends
 abbrev pub IsEnd : LineShare → Outcome → Type 0
-IsEnd s o = (o.share.want ≡ None) × (waits_any s.want ≡ true)
+IsEnd s o = (o.share.want ≡ None) × (is_outstanding s.want ≡ true)
 
 abbrev pub IsEffect : ℕ → ℕ → LineShare → Outcome → Type 0
 IsEffect me home s o = IsQuiet s o ⊎ (IsMark me home s o ⊎ IsEnd s o)
@@ -25,14 +23,6 @@ IsEffect me home s o = IsQuiet s o ⊎ (IsMark me home s o ⊎ IsEnd s o)
 -- what a row leaves at a node, and that it keeps what holds of a line at its home
 abbrev pub IsKept : ℕ → ℕ → LineShare → Outcome → Type 0
 IsKept me home s o = (me ≡ home → IsOwnLine home o.share) × IsEffect me home s o
-
-pub loads-wait : (want : Option Want) → waits_load want ≡ true → waits_any want ≡ true
-loads-wait None e = e
-loads-wait (Some want) e = refl
-
-pub writes-wait : (want : Option Want) → waits_write want ≡ true → waits_any want ≡ true
-writes-wait None e = e
-writes-wait (Some want) e = refl
 
 -- what holds while a line waits for this
 pub waits-so : (home : ℕ) (wait : Wait) (s : LineShare) → s.header.wait ≡ wait → IsOwnLine home s → IsOwnWait home wait s

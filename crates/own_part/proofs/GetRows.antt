@@ -1,5 +1,6 @@
 -- A Get and a GetX at the home keep what holds of its line by itself.
 use Rattle.std.proofs.Common.{◌≡◌, ◌≢◌, ℕ, Bool, true, false, cond, ◌&&◌, not, refl, arith, sym, ap, subst, ◌∙◌}
+use Rattle.std.proofs.Math.Bool.{and-false}
 use Rattle.std.proofs.lemmas.Bool.Decides.{nat_tests}
 use Rattle.op_model.specs.Nodes.{listed, enlist, unlist, count, only, listings}
 use Rattle.op_model.specs.Lines.{LineShare, Outcome, Room, is_idle, is_pending, is_exclusive}
@@ -10,14 +11,12 @@ use Rattle.op_model.specs.declared.messages.NakCause.{NakCause}
 use Rattle.op_model.specs.declared.messages.NakCause.TheVariants.{Pending, NoLink, Budget}
 use Rattle.op_model.specs.Tables.Home.{on_get, on_getx, lacks_link, no_other, refuse, share_home_copy, share_memory, forward_get, give_home_copy, give_memory, forward_getx, invalidate_for}
 use Rattle.op_model.specs.Tables.Remote.{asks_well}
-use Rattle.own_part.proofs.Basics.{idle-is, above-none, none-between, none-last}
+use Rattle.op_model.proofs.Plain.{other_fails}
+use Rattle.own_part.proofs.Basics.{idle-is, above-none, none-between}
 use Rattle.own_part.proofs.Effects.{IsQuiet, waits-so, idle-exclusive}
 
 asks-of : (idle dirty local listed : Bool) → not (idle && dirty && not local && listed) ≡ true → idle ≡ true → dirty ≡ true → local ≡ false → listed ≡ false
 asks-of idle dirty local listed e f g h = grind arith
-
-dirty-away : (dirty local : Bool) → (dirty && local) ≡ false → dirty ≡ true → local ≡ false
-dirty-away dirty local e f = grind arith
 
 module _ (home sender : ℕ) (apart : sender ≢ home) (s : LineShare) (own : IsOwnLine home s) where
   abbrev Keeps : Outcome → Type 0
@@ -56,13 +55,13 @@ module _ (home sender : ℕ) (apart : sender ≢ home) (s : LineShare) (own : Is
     gives : (s.header.dirty && s.header.local) ≡ true → Keeps (give_home_copy sender s)
     gives both =
         let w = waits-so home Idle s idle own in
-        (record { local = refl; unlisted = unlisted-only; exclusive = sym (none-last (is_idle s.header.wait && s.header.dirty)); waiting = subst (λ k. IsOwnWait home k (give_home_copy sender s).share) (sym idle) (w.0, λ d. count-only) }, (refl, refl, λ none. refl))
+        (record { local = refl; unlisted = unlisted-only; exclusive = sym (and-false (is_idle s.header.wait && s.header.dirty)); waiting = subst (λ k. IsOwnWait home k (give_home_copy sender s).share) (sym idle) (w.0, λ d. count-only) }, (refl, refl, λ none. refl))
 
     -- H13
     gives-memory : Keeps (give_memory sender s)
     gives-memory =
         let w = waits-so home Idle s idle own in
-        (record { local = refl; unlisted = unlisted-only; exclusive = sym (none-last (is_idle s.header.wait && true)); waiting = subst (λ k. IsOwnWait home k (give_memory sender s).share) (sym idle) (w.0, λ d. count-only) }, (refl, refl, λ none. refl))
+        (record { local = refl; unlisted = unlisted-only; exclusive = sym (and-false (is_idle s.header.wait && true)); waiting = subst (λ k. IsOwnWait home k (give_memory sender s).share) (sym idle) (w.0, λ d. count-only) }, (refl, refl, λ none. refl))
 
     -- H15
     calls : s.header.dirty ≡ false → no_other sender s.header.list ≡ false → Keeps (invalidate_for sender s)
@@ -103,7 +102,7 @@ get-keeps home sender apart room s own asks =
     (if-either K (lacks_link room sender s.header) _ _ (λ _. no NoLink) (λ _.
     (if-either K (s.header.dirty && s.header.local) _ _ (λ both. shares home sender apart s own (idle-is s.header.wait free) both) (λ not_own.
     (if-either K (s.header.dirty && room.full) _ _ (λ _. no Budget) (λ _.
-    (if-either K s.header.dirty _ _ (λ dirty. forwards-get home sender apart s own (idle-is s.header.wait free) asks dirty (dirty-away s.header.dirty s.header.local not_own dirty)) (λ clean. lends home sender apart s own (idle-is s.header.wait free) clean)))))))))))))
+    (if-either K s.header.dirty _ _ (λ dirty. forwards-get home sender apart s own (idle-is s.header.wait free) asks dirty (other_fails s.header.dirty s.header.local not_own dirty)) (λ clean. lends home sender apart s own (idle-is s.header.wait free) clean)))))))))))))
   where
     K : Outcome → Type 0
     K o = IsOwnLine home o.share × IsQuiet s o
@@ -117,7 +116,7 @@ getx-keeps home sender apart room s own asks =
     if-either K (is_pending s.header) _ _ (λ _. no Pending) (λ free.
     (if-either K (s.header.dirty && s.header.local) _ _ (λ both. gives home sender apart s own (idle-is s.header.wait free) both) (λ not_own.
     (if-either K (s.header.dirty && room.full) _ _ (λ _. no Budget) (λ _.
-    (if-either K s.header.dirty _ _ (λ dirty. forwards-getx home sender apart s own (idle-is s.header.wait free) asks dirty (dirty-away s.header.dirty s.header.local not_own dirty)) (λ clean.
+    (if-either K s.header.dirty _ _ (λ dirty. forwards-getx home sender apart s own (idle-is s.header.wait free) asks dirty (other_fails s.header.dirty s.header.local not_own dirty)) (λ clean.
     (if-either K (no_other sender s.header.list) _ _ (λ _. gives-memory home sender apart s own (idle-is s.header.wait free)) (λ others.
     (if-either K room.full _ _ (λ _. no Budget) (λ _. calls home sender apart s own (idle-is s.header.wait free) clean others)))))))))))
   where

@@ -1,6 +1,7 @@
 -- What a node does by itself with one line, a hit, a beginning, an eviction and a call, keeps what holds of the line at its home.
 use Rattle.std.proofs.Common.{◌≡◌, ◌⊎◌, inl, inr, ℕ, ◌<◌, Bool, true, false, cond, ◌==◌, ◌&&◌, not, refl, arith, sym, ap, subst, ◌∙◌, Result, Ok, Err}
-use Rattle.std.proofs.lemmas.Bool.Decides.{nat_tests}
+use Rattle.std.proofs.Math.Bool.{and-false}
+use Rattle.std.proofs.lemmas.Bool.{not-true, not-false, eqb-true, eqb-false}
 use Rattle.op_model.specs.Nodes.{count}
 use Rattle.op_model.specs.Operations.{Words, is_load}
 use Rattle.op_model.specs.Lines.{Copy, Absent, Shared, Exclusive, LineShare, Outcome, Room, begun, is_idle, is_pending, is_empty, is_exclusive, nobody_listed, without_shared}
@@ -14,8 +15,9 @@ use Rattle.op_model.specs.declared.state.Wait.{Wait}
 use Rattle.op_model.specs.declared.state.Wait.TheVariants.{Idle, Invalidate, ForwardGet, ForwardGetX}
 use Rattle.op_model.specs.declared.state.Grantee.{Grantee}
 use Rattle.op_model.specs.declared.state.Grantee.TheVariants.{Nobody, Me, Node}
-use Rattle.line_invariant.proofs.Basics.{eq-self, if-either}
-use Rattle.own_part.proofs.Basics.{above-none, away-empty, idle-is, is-other, is-same, none-between, none-last, turned, turned-back}
+use Rattle.op_model.proofs.Plain.{eqb-self, err-ok, above_one, other_fails}
+use Rattle.line_invariant.proofs.Basics.{if-either}
+use Rattle.own_part.proofs.Basics.{above-none, away-empty, idle-is, none-between}
 use Rattle.own_part.proofs.Effects.{IsQuiet, idle-exclusive, waits-so}
 
 -- a change of the copy alone, which leaves its state and an empty one empty
@@ -57,7 +59,7 @@ missed op Absent e = (refl, refl)
 missed op (Shared words) e = (refl, refl)
 missed op (Exclusive words) e = absurd (let d : false ≡ true = sym e in cc)
 
-not-local : (exclusive dirty local : Bool) → exclusive ≡ (dirty && local) → exclusive ≡ false → dirty ≡ true → local ≡ false
+pub not-local : (exclusive dirty local : Bool) → exclusive ≡ (dirty && local) → exclusive ≡ false → dirty ≡ true → local ≡ false
 not-local exclusive dirty local e f d = grind arith
 
 module _ (home : ℕ) (room : Room) (op : Op) (s : LineShare) (own : IsOwnLine home s) (miss : serves op s.copy ≡ false) where
@@ -88,11 +90,8 @@ module _ (home : ℕ) (room : Room) (op : Op) (s : LineShare) (own : IsOwnLine h
           local = refl;
           unlisted = own.unlisted;
           exclusive = sym (ap (λ k. is_idle k && true && true) idle);
-          waiting = subst (λ k. IsOwnWait home k (write_at_home op s).share) (sym idle) (w.0, λ d. zero-is (count s.header.list) nobody);
+          waiting = subst (λ k. IsOwnWait home k (write_at_home op s).share) (sym idle) (w.0, λ d. eqb-true (count s.header.list) 0 nobody);
         }
-      where
-        zero-is : (n : ℕ) → (n == 0) ≡ true → n ≡ 0
-        zero-is n e = grind (arith, nat_tests)
 
     calls : s.header.dirty ≡ false → is_load op.kind ≡ false → nobody_listed s.header.list ≡ false → IsOwnLine home (invalidate_for_home op s).share
     calls clean write others =
@@ -114,7 +113,7 @@ module _ (home : ℕ) (room : Room) (op : Op) (s : LineShare) (own : IsOwnLine h
           local = own.local;
           unlisted = own.unlisted;
           exclusive = (missed op s.copy miss).0;
-          waiting = (w.0, away dirty, own.unlisted ∙ sym (ap not (eq-self home)), one dirty ∙ sym (ap (λ c. cond c 1 2) (eq-self home)));
+          waiting = (w.0, away dirty, own.unlisted ∙ sym (ap not (eqb-self home)), one dirty ∙ sym (ap (λ c. cond c 1 2) (eqb-self home)));
         }
 
     forwards-getx : s.header.dirty ≡ true → IsOwnLine home (forward_getx_home home op s).share
@@ -129,19 +128,16 @@ module _ (home : ℕ) (room : Room) (op : Op) (s : LineShare) (own : IsOwnLine h
       (if-either Gives (not s.header.dirty && is_load op.kind) _ _ (λ c. good _ (loads (idle-is s.header.wait free) (first s.header.dirty (is_load op.kind) c), inl refl)) (λ not_load.
       (if-either Gives (not s.header.dirty && nobody_listed s.header.list) _ _ (λ c. good _ (writes (idle-is s.header.wait free) (second s.header.dirty (nobody_listed s.header.list) c), inl refl)) (λ listed_some.
       (if-either Gives room.full _ _ (λ _. bad _) (λ _.
-      (if-either Gives (not s.header.dirty) _ _ (λ clean. good _ (calls (idle-is s.header.wait free) (turned s.header.dirty clean) (other (not s.header.dirty) (is_load op.kind) not_load clean) (other (not s.header.dirty) (nobody_listed s.header.list) listed_some clean), inr (refl, refl, refl))) (λ dirty.
+      (if-either Gives (not s.header.dirty) _ _ (λ clean. good _ (calls (idle-is s.header.wait free) (not-true s.header.dirty clean) (other_fails (not s.header.dirty) (is_load op.kind) not_load clean) (other_fails (not s.header.dirty) (nobody_listed s.header.list) listed_some clean), inr (refl, refl, refl))) (λ dirty.
       (if-either Gives (is_load op.kind) _ _
-      (λ _. good _ (forwards-get (idle-is s.header.wait free) (turned-back s.header.dirty dirty), inr (refl, refl, empty (idle-is s.header.wait free) (turned-back s.header.dirty dirty))))
-      (λ _. good _ (forwards-getx (idle-is s.header.wait free) (turned-back s.header.dirty dirty), inr (refl, refl, empty (idle-is s.header.wait free) (turned-back s.header.dirty dirty))))))))))))))
+      (λ _. good _ (forwards-get (idle-is s.header.wait free) (not-false s.header.dirty dirty), inr (refl, refl, empty (idle-is s.header.wait free) (not-false s.header.dirty dirty))))
+      (λ _. good _ (forwards-getx (idle-is s.header.wait free) (not-false s.header.dirty dirty), inr (refl, refl, empty (idle-is s.header.wait free) (not-false s.header.dirty dirty))))))))))))))
     where
       first : (d l : Bool) → (not d && l) ≡ true → d ≡ false
       first d l e = grind arith
 
       second : (d l : Bool) → (not d && l) ≡ true → l ≡ true
       second d l e = grind arith
-
-      other : (a b : Bool) → (a && b) ≡ false → a ≡ true → b ≡ false
-      other a b e f = grind arith
 
 asks : (home : ℕ) (op : Op) (s : LineShare) → serves op s.copy ≡ false → IsBegun op s (ask home op s)
 unfolding ask
@@ -150,16 +146,13 @@ asks home op s miss = if-either (IsBegun op s) (is_load op.kind) _ _ (λ load. i
 pub begin-keeps : (me home : ℕ) (room : Room) (op : Op) (s : LineShare) (o : Outcome) → (me ≡ home → IsOwnLine home s) → begin_op me home room op s ≡ Ok o → BeginKeeps me home op s o
 unfolding begin_op
 begin-keeps me home room op s o own =
-    if-either Gives' (serves op s.copy) _ _ (λ _ e. absurd (no-error _ e)) (λ miss.
+    if-either Gives' (serves op s.copy) _ _ (λ _ e. absurd (err-ok _ o e)) (λ miss.
     (if-either Gives' (me == home) _ _
-    (λ here e. let k = at-home-keeps home room op s (own (is-same me home here)) miss o e in ((λ _. k.0), k.1))
-    (λ there e. let is : ask home op s ≡ o = cc in subst (BeginKeeps me home op s) is ((λ same. absurd (is-other me home there same)), asks home op s miss))))
+    (λ here e. let k = at-home-keeps home room op s (own (eqb-true me home here)) miss o e in ((λ _. k.0), k.1))
+    (λ there e. let is : ask home op s ≡ o = cc in subst (BeginKeeps me home op s) is ((λ same. absurd (eqb-false me home there same)), asks home op s miss))))
   where
     Gives' : Result Outcome Cause → Type 0
     Gives' r = r ≡ Ok o → BeginKeeps me home op s o
-
-    no-error : (c : Cause) → ◌≡◌ {A = Result Outcome Cause} (Err c) (Ok o) → ⊥
-    no-error c e = cc
 
 abbrev pub LeaveKeeps : ℕ → ℕ → LineShare → Outcome → Type 0
 LeaveKeeps me home s o = (me ≡ home → IsOwnLine home o.share) × IsQuiet s o
@@ -189,7 +182,7 @@ module _ (home : ℕ) (s : LineShare) (own : IsOwnLine home s) where
   leave-home-keeps : (copy : Copy) → s.copy ≡ copy → IsOwnLine home (leave_home copy s).share
   leave-home-keeps Absent e = own
   leave-home-keeps (Shared words) e =
-      record { local = refl; unlisted = own.unlisted; exclusive = sym (none-last (is_idle s.header.wait && s.header.dirty)); waiting = unshared s.header.wait words e own.waiting (idle-clean words e) }
+      record { local = refl; unlisted = own.unlisted; exclusive = sym (and-false (is_idle s.header.wait && s.header.dirty)); waiting = unshared s.header.wait words e own.waiting (idle-clean words e) }
   leave-home-keeps (Exclusive words) e =
       record {
         local = refl;
@@ -214,27 +207,21 @@ evict-keeps me home kind s o own =
     if-either Gives' (fits (me == home) kind s.copy) _ _
     (λ _ e. let is : cond (me == home) (leave_home s.copy s) (leave_remote home kind s) ≡ o = cc in subst (LeaveKeeps me home s) is (if-either (LeaveKeeps me home s) (me == home) (leave_home s.copy s) (leave_remote home kind s)
     (λ here. ((λ same. leave-home-keeps home s (own same) s.copy refl), leave-home-quiet s.copy s refl))
-    (λ there. ((λ same. absurd (is-other me home there same)), leave-remote-quiet home kind s))))
-    (λ _ e. absurd (no-error _ e))
+    (λ there. ((λ same. absurd (eqb-false me home there same)), leave-remote-quiet home kind s))))
+    (λ _ e. absurd (err-ok _ o e))
   where
     Gives' : Result Outcome Cause → Type 0
     Gives' r = r ≡ Ok o → LeaveKeeps me home s o
-
-    no-error : (c : Cause) → ◌≡◌ {A = Result Outcome Cause} (Err c) (Ok o) → ⊥
-    no-error c e = cc
 
 -- A line that holds a link and isn't pending is clean, since a dirty one is listed by one node at most
 pub call-keeps : (home : ℕ) (room : Room) (s : LineShare) → IsOwnLine home s → is_pending s.header ≡ false → holds_link room s.header ≡ true → IsOwnLine home (call_in s).share
 call-keeps home room s own free holds =
     let idle = idle-is s.header.wait free in
     let w = waits-so home Idle s idle own in
-    let many = several room.linked (count s.header.list) holds in
+    let many = above_one room.linked (count s.header.list) holds in
     let clean = not-dirty s.header.dirty s.header.local (count s.header.list) w.1 many in
     record { local = own.local; unlisted = own.unlisted; exclusive = idle-exclusive home s idle own ∙ ap (λ d. d && s.header.local) clean; waiting = (clean, above (count s.header.list) many, refl, tt) }
   where
-    several : (l : Bool) (n : ℕ) → (l && not (n == 0) && not (n == 1)) ≡ true → 1 < n
-    several l n e = grind (arith, nat_tests)
-
     above : (n : ℕ) → 1 < n → 0 < n
     above n e = omega arith
 

@@ -3,14 +3,15 @@ use Rattle.std.proofs.Common.{◌≡◌, ◌≢◌, ℕ, Bool, true, false, cond
 use Rattle.std.proofs.lemmas.Bool.Decides.{nat_tests}
 use Rattle.op_model.specs.Nodes.{listed, count, none, listings}
 use Rattle.op_model.specs.Operations.{Words, after_op}
-use Rattle.op_model.specs.Lines.{Exclusive, LineShare, Outcome, Own, sending, no_message, is_exclusive, without_shared}
+use Rattle.op_model.specs.Lines.{Exclusive, LineShare, Outcome, Own, sending, no_message, is_exclusive, without_shared, is_outstanding}
 use Rattle.op_model.specs.OwnPart.{IsOwnLine, IsOwnWait}
 use Rattle.op_model.specs.declared.state.Want.{Want}
 use Rattle.op_model.specs.declared.state.Wait.{Wait}
 use Rattle.op_model.specs.declared.state.Wait.TheVariants.{Idle, Invalidate, ForwardGet, ForwardGetX}
 use Rattle.line_invariant.proofs.Basics.{if-either}
-use Rattle.op_model.specs.Tables.Remote.{on_fwd_get, on_fwd_getx, on_inv, on_put, on_putx, on_nak, waits_load, waits_write, waits_any, is_forward_get, is_forward_getx}
-use Rattle.own_part.proofs.Effects.{IsQuiet, IsMark, IsEnd, loads-wait, writes-wait, waits-so}
+use Rattle.op_model.specs.Tables.Remote.{on_fwd_get, on_fwd_getx, on_inv, on_put, on_putx, on_nak, waits_load, waits_write, is_forward_get, is_forward_getx}
+use Rattle.op_model.proofs.Shares.{load-outstanding, write-outstanding}
+use Rattle.own_part.proofs.Effects.{IsQuiet, IsMark, IsEnd, waits-so}
 
 pub fwd-get-quiet : (home requester : ℕ) (s : LineShare) → IsQuiet s (on_fwd_get home requester s)
 unfolding on_fwd_get
@@ -26,8 +27,8 @@ inv-mark me home s apart = (apart, refl, refl, λ none. ap without_shared none)
 
 pub put-ends : (at_home : Bool) (words : Words) (s : LineShare) → waits_load s.want ≡ true → IsEnd s (on_put at_home words s)
 unfolding on_put
-put-ends true words s waits = (refl, loads-wait s.want waits)
-put-ends false words s waits = (refl, loads-wait s.want waits)
+put-ends true words s waits = (refl, load-outstanding s.want waits)
+put-ends false words s waits = (refl, load-outstanding s.want waits)
 
 pub put-keeps : (home : ℕ) (words : Words) (s : LineShare) → IsOwnLine home s → is_forward_get home s.header.wait ≡ true → IsOwnLine home (on_put true words s).share
 unfolding on_put
@@ -66,7 +67,7 @@ putx-ends at_home words s waits = go s.want refl
   where
     go : (want : Option Want) → s.want ≡ want → IsEnd s (putx_by at_home words s want)
     go None e = absurd (none-waits s.want e waits)
-    go (Some w) e = (refl, writes-wait s.want waits)
+    go (Some w) e = (refl, write-outstanding s.want waits)
 
 pub putx-keeps : (home : ℕ) (words : Words) (s : LineShare) → IsOwnLine home s → waits_write s.want ≡ true → is_forward_getx home s.header.wait ≡ true → IsOwnLine home (on_putx true words s).share
 unfolding on_putx
@@ -88,7 +89,7 @@ putx-keeps home words s own waits forwards = go s.want refl
     go None e = absurd (none-waits s.want e waits)
     go (Some w) e = record { local = refl; unlisted = empty-list; exclusive = refl; waiting = (none-due s.header.wait refl forwards, λ d. empty-count) }
 
-pub nak-ends : (s : LineShare) → waits_any s.want ≡ true → IsEnd s (on_nak s)
+pub nak-ends : (s : LineShare) → is_outstanding s.want ≡ true → IsEnd s (on_nak s)
 unfolding on_nak
 nak-ends s waits = (refl, waits)
 

@@ -1,6 +1,7 @@
 -- A row of one line, put into the share of its node, keeps what holds of the share: the other lines are as they were, each count
 -- changes by one line's, and the set of a line that the node waits for stays empty.
 use Rattle.std.proofs.Common.{◌≡◌, ◌≢◌, ◌⊎◌, inl, inr, ℕ, Bool, true, false, ◌==◌, ◌&&◌, not, List, refl, arith, sym, ap, subst, ◌∙◌, None}
+use Rattle.std.proofs.lemmas.Bool.{not-true}
 use Rattle.std.proofs.lemmas.Bool.Decides.{nat_tests}
 use Rattle.std.specs.FinMap as fin
 use Rattle.line_map.specs.Sizes.{Sizes, home_of, set_of}
@@ -8,11 +9,11 @@ use Rattle.op_model.specs.declared.operations.Op.{Op}
 use Rattle.op_model.specs.Lines.{Absent, Copy, LineShare, Outcome, is_empty}
 use Rattle.op_model.specs.OwnPart.{IsOutstanding, IsOwnLine, IsOwnPart}
 use Rattle.op_model.specs.Shares.{Charge, Share, copy_of, header_of, is_set_empty, line_share, put_share, room_of, want_on}
+use Rattle.op_model.proofs.Shares.{empty-copy}
 use Rattle.one_history.proofs.Sets.{any-found, any-none, found}
 use Rattle.one_history.proofs.Shares.{IsOn, copy-other, copy-same, header-other, header-same, want-other, want-same}
 use Rattle.lane_bounds.proofs.Allowed.{IsAllowed}
 use Rattle.lane_bounds.proofs.Homes.{links-bound, own-after, pending-bound}
-use Rattle.own_part.proofs.Basics.{empty-copy, turned}
 
 -- a set is empty exactly where each line of it has no copy
 pub all-empty : (sizes : Sizes) (share : Share) (line b : ℕ) → is_set_empty sizes share line ≡ true → set_of sizes b ≡ set_of sizes line → is_empty (copy_of share b) ≡ true
@@ -26,7 +27,7 @@ all-empty sizes share line b alone same = go (is_empty (copy_of share b)) refl
         let t : (set_of sizes b == set_of sizes line) ≡ true = grind (arith, nat_tests) in
         let holds : ((set_of sizes b == set_of sizes line) && not (is_empty (copy_of share b))) ≡ true = rw (t, e) refl in
         let any = any-found (λ k. (set_of sizes k == set_of sizes line) && not (is_empty (copy_of share k))) b at.0 (fin.entries share.copies) at.1 holds in
-        let d : true ≡ false = sym any ∙ turned _ alone in cc
+        let d : true ≡ false = sym any ∙ not-true _ alone in cc
 
 pub empty-set : (sizes : Sizes) (share : Share) (line : ℕ) → ((b : ℕ) → set_of sizes b ≡ set_of sizes line → is_empty (copy_of share b) ≡ true) → is_set_empty sizes share line ≡ true
 unfolding copy_of

@@ -1,5 +1,6 @@
 -- A refusal for want of a link: the row keeps the share of its node, and refuses since a pending line holds a link or calls a line in.
 use Rattle.std.proofs.Common.{◌≡◌, ◌≢◌, ◌⊎◌, inl, inr, ℕ, ◌<◌, Bool, true, false, cond, nat_lt, ◌==◌, ◌&&◌, ◌||◌, not, List, [], ◌∷◌, refl, arith, ap, sym, subst, ◌∙◌, Option, Some, None, Result, Ok, Err, unwrap_or}
+use Rattle.std.proofs.lemmas.Bool.{and_parts}
 use Rattle.std.proofs.lemmas.Bool.Decides.{nat_tests}
 use Rattle.std.specs.FinMap as fin
 use Rattle.std.specs.List.{list_any}
@@ -18,6 +19,7 @@ use Rattle.op_model.specs.Shares.{Charge, Share, first_header, header_of, is_lin
 use Rattle.op_model.specs.Tables.Home.{lacks_link, on_get, wants_victim}
 use Rattle.op_model.specs.Tables.Processor.{call_in, holds_link}
 use Rattle.op_model.specs.Tables.Remote.{meets, on_message, row_of}
+use Rattle.op_model.proofs.Plain.{three_parts, and_above_one, above_one}
 use Rattle.line_invariant.proofs.Basics.{if-either}
 use Rattle.one_history.proofs.Events.{header-kept, refuses}
 use Rattle.one_history.proofs.Shares.{header-same}
@@ -27,7 +29,7 @@ use Rattle.link_refusals.proofs.Reasons.{IsReason, refuses_row, why-refused}
 use Rattle.own_refusals.specs.OwnLinks.{HasLinkPending}
 
 -- a row refuses where its messages do
-any-sent : (line : ℕ) (sends : List (ℕ × Content)) → list_any (λ (send : ℕ × Msg). is_nak NoLink (msg_content send.1)) (messages line sends) ≡ list_any (λ (send : ℕ × Content). is_nak NoLink send.1) sends
+pub any-sent : (line : ℕ) (sends : List (ℕ × Content)) → list_any (λ (send : ℕ × Msg). is_nak NoLink (msg_content send.1)) (messages line sends) ≡ list_any (λ (send : ℕ × Content). is_nak NoLink send.1) sends
 any-sent line [] = refl
 any-sent line (send ∷ sends) = λ i. is_nak NoLink (msg_content-message line send.1 i) || any-sent line sends i
 
@@ -36,7 +38,7 @@ lacks : (room : Room) (src : ℕ) (s : LineShare) → refuses_row (on_get room s
 unfolding on_get
 lacks room src s =
     if-either K (is_pending s.header) _ _ no (λ _.
-    (if-either K (lacks_link room src s.header && room.link_pending) _ _ (λ both _. first (lacks_link room src s.header) room.link_pending both) (λ _.
+    (if-either K (lacks_link room src s.header && room.link_pending) _ _ (λ both _. (and_parts (lacks_link room src s.header) room.link_pending both).0) (λ _.
     (if-either K (lacks_link room src s.header && room.full) _ _ no (λ _.
     (if-either K (lacks_link room src s.header) _ _ (λ is _. is) (λ _.
     (if-either K (s.header.dirty && s.header.local) _ _ no (λ _.
@@ -49,31 +51,16 @@ lacks room src s =
     no : {b : Bool} {c : Bool} → b ≡ c → false ≡ true → lacks_link room src s.header ≡ true
     no e f = absurd (cc)
 
-    first : (a b : Bool) → (a && b) ≡ true → a ≡ true
-    first a b e = grind arith
-
-all3 : (a b c : Bool) → (a && b && c) ≡ true → (a ≡ true) × (b ≡ true) × (c ≡ true)
-all3 a b c e = (grind arith, grind arith, grind arith)
-
-two : (a : Bool) (n : ℕ) → (a && nat_lt 1 n) ≡ true → (a ≡ true) × (1 < n)
-two a n e = (grind (arith, nat_tests), grind (arith, nat_tests))
-
-several : (l : Bool) (n : ℕ) → (l && not (n == 0) && not (n == 1)) ≡ true → 1 < n
-several l n e = grind (arith, nat_tests)
-
 -- where lists cost no links nothing is refused for want of one
 message-linked : (me home src : ℕ) (alone : Bool) (room : Room) (s : LineShare) (content : Content) → refuses_row (on_message me home src alone room content s) ≡ true → room.linked ≡ true
 unfolding on_message row_of
 message-linked me home src alone room s content is = go content is (why-refused room s me home src alone content is).get
   where
-    needs : (l a b c : Bool) → ((l && a && b) && c) ≡ true → l ≡ true
-    needs l a b c e = grind arith
-
     get : refuses_row (on_message me home src alone room Get s) ≡ true → lacks_link room src s.header ≡ true
     get = if-either (λ (o : Outcome). refuses_row o ≡ true → lacks_link room src s.header ≡ true) (meets me home src alone Get s) _ _ (λ _. lacks room src s) (λ _ e. absurd (cc))
 
     go : (content : Content) → refuses_row (on_message me home src alone room content s) ≡ true → is_get content ≡ true → room.linked ≡ true
-    go Get is e = needs room.linked (not (listed s.header.list src)) (not (nobody_listed s.header.list)) (not room.link_free) (get is)
+    go Get is e = (three_parts room.linked (not (listed s.header.list src)) (not (nobody_listed s.header.list)) (and_parts (room.linked && not (listed s.header.list src) && not (nobody_listed s.header.list)) (not room.link_free) (get is)).0).0
     go GetX is e = absurd (cc)
     go (FwdGet r) is e = absurd (cc)
     go (FwdGetX r) is e = absurd (cc)
@@ -121,7 +108,7 @@ module _ (charge : Charge) (sizes : Sizes) (node : ℕ) (program : List Op) (sha
         let f : Found (λ h. is_pending h && nat_lt 1 (count h.list)) (fin.entries share.headers) = found (λ h. is_pending h && nat_lt 1 (count h.list)) (fin.entries share.headers) (fin.entries_sorted share.headers) is in
         let at : fin.get share.headers f.0 ≡ Some f.1 = fin.get-entries share.headers f.0 ∙ f.2 in
         let has : header_of sizes share f.0 ≡ f.1 = ap (λ o. unwrap_or o (first_header sizes)) at in
-        let both = two (is_pending f.1) (count f.1.list) f.3 in
+        let both = and_above_one (is_pending f.1) (count f.1.list) f.3 in
         record { line = f.0; of_home = home f.0 f.1 at (home_of sizes f.0 == node) refl; pending = ap is_pending has ∙ both.0; several = subst (λ h. 1 < count h.list) (sym has) both.1 }
       where
         home : (g : ℕ) (h : Header) → fin.get share.headers g ≡ Some h → (c : Bool) → (home_of sizes g == node) ≡ c → home_of sizes g ≡ node
@@ -149,12 +136,12 @@ module _ (charge : Charge) (sizes : Sizes) (node : ℕ) (program : List Op) (sha
 
     by-call : (g : ℕ) → asks_victim charge sizes node share src m ≡ true → fits_victim charge sizes node share g ≡ true → HasLinkPending sizes node (and_call sizes node g out).share
     by-call g asks fit =
-        let want = all3 (meets_row sizes node share src m) (is_get (msg_content m)) (wants_victim room src (header_of sizes share line)) asks in
+        let want = three_parts (meets_row sizes node share src m) (is_get (msg_content m)) (wants_victim room src (header_of sizes share line)) asks in
         let same = refuses node (home_of sizes line) src (is_set_empty sizes share line) room (msg_content m) (line_share sizes share line) want.1 want.2 in
-        let fits = all3 (home_of sizes g == node) (holds_link room (header_of sizes share g)) (not (is_pending (header_of sizes share g))) fit in
+        let fits = three_parts (home_of sizes g == node) (holds_link room (header_of sizes share g)) (not (is_pending (header_of sizes share g))) fit in
         let here : home_of sizes g ≡ node = let e = fits.0 in grind (arith, nat_tests) in
         let at : (node == home_of sizes g) ≡ true = let e = fits.0 in grind (arith, nat_tests) in
-        let many = several room.linked (count (header_of sizes share g).list) fits.1 in
+        let many = above_one room.linked (count (header_of sizes share g).list) fits.1 in
         let called = call_in (line_share sizes out.share g) in
         let is : header_of sizes (and_call sizes node g out).share g ≡ called.share.header = header-same sizes (node == home_of sizes g) g called.done called.share out.share at in
         record { line = g; of_home = here; pending = ap is_pending is; several = subst (λ h. 1 < count h.list) (sym is) (subst (λ h. 1 < count h.list) (sym (kept same g)) many) }
@@ -199,4 +186,4 @@ module _ (charge : Charge) (sizes : Sizes) (node : ℕ) (program : List Op) (sha
           subst (λ y. refuses_link y ≡ true → is_linked charge ≡ true) same
           (λ r. message-linked node (home_of sizes line) src (is_set_empty sizes share line) room (line_share sizes share line) (msg_content m) (sym (any-sent line row.sends) ∙ r)) is
       with true asks (Some g) = if-either Gives (fits_victim charge sizes node share g) _ _
-          (λ fit e is. holder (is_linked charge) (count (header_of sizes share g).list) (all3 (home_of sizes g == node) (holds_link room (header_of sizes share g)) (not (is_pending (header_of sizes share g))) fit).1) (λ _. bad _)
+          (λ fit e is. holder (is_linked charge) (count (header_of sizes share g).list) (three_parts (home_of sizes g == node) (holds_link room (header_of sizes share g)) (not (is_pending (header_of sizes share g))) fit).1) (λ _. bad _)

@@ -1,6 +1,6 @@
 -- What a node's next operation does, by the definition of one node's act.
-use Rattle.std.proofs.Common.{◌≡◌, ◌≢◌, ℕ, suc, Bool, true, false, cond, not, ◌==◌, List, [], slice_get, is_some, Option, Some, None, Result, Ok, Err, refl, sym, ap, ◌∙◌, subst, arith, unwrap_or}
-use Rattle.std.proofs.lemmas.Bool.Decides.{nat_tests}
+use Rattle.std.proofs.Common.{◌≡◌, ◌≢◌, ℕ, suc, Bool, true, false, cond, not, ◌==◌, List, [], slice_get, is_some, Option, Some, None, Result, Ok, Err, refl, sym, ap, ◌∙◌, subst, unwrap_or}
+use Rattle.std.proofs.lemmas.Bool.{cond-true, cond-false, eqb-true, eq-eqb}
 use Rattle.std.specs.FinMap as fin
 use Rattle.line_map.specs.Sizes.{Sizes, line_of, home_of}
 use Rattle.op_model.specs.declared.events.Cause.{Cause}
@@ -8,11 +8,12 @@ use Rattle.op_model.specs.declared.events.Cause.TheVariants.{NoOp, Outstanding, 
 use Rattle.op_model.specs.declared.operations.Op.{Op}
 use Rattle.op_model.specs.declared.state.Want.{Want}
 use Rattle.op_model.specs.Operations.{entry_of, is_load}
-use Rattle.op_model.specs.Lines.{Copy, Header, LineShare, NoService, Own, Outcome, words_of}
+use Rattle.op_model.specs.Lines.{Copy, LineShare, NoService, Own, Outcome, words_of}
 use Rattle.op_model.specs.Shares.{Charge, Share, first_header, copy_of, header_of, line_share, put_copy, want_on, want_after, conflicts, room_of, header_in, copy_in, Headers}
 use Rattle.op_model.specs.Tables.Processor.{serves, done_on, hit, ask, begin_op, begin_at_home}
 use Rattle.op_model.specs.Events.Node.{Input, HitNext, IssueNext, NodeOutcome, local, by_row, with_next, hit_next, issue_next, map_ok, is_outstanding, permit}
 use Rattle.op_model.specs.Programs.{IsProgramOf}
+use Rattle.op_model.proofs.Plain.{some_held}
 use Rattle.cpu_cache.specs.Effects.{effect_of, nothing, own_effect}
 use Rattle.cpu_cache.specs.declared.effects.Effect.{Effect}
 use Rattle.cpu_cache.specs.Caches.{CacheView, with_copy, is_set_taken}
@@ -24,14 +25,6 @@ use Rattle.node_share.proofs.Homes.{put-same}
 use Rattle.node_share.proofs.Rows.{row-share}
 use Rattle.node_share.proofs.Wants.{sent-none, effect-none, effect-own}
 
-yes : {A : Type 0} (b : Bool) (x y : A) → b ≡ true → cond b x y ≡ x
-yes true x y e = refl
-yes false x y e = cc
-
-no : {A : Type 0} (b : Bool) (x y : A) → b ≡ false → cond b x y ≡ y
-no true x y e = cc
-no false x y e = refl
-
 outstanding : (want : Option Want) → is_some want ≡ true → is_outstanding want ≡ true
 outstanding None e = cc
 outstanding (Some w) e = refl
@@ -39,10 +32,6 @@ outstanding (Some w) e = refl
 pub free-is : (want : Option Want) → is_some want ≡ false → want ≡ None
 free-is None e = refl
 free-is (Some w) e = cc
-
-has-header : (o : Option Header) (first : Header) → is_some o ≡ true → o ≡ Some (unwrap_or o first)
-has-header None first e = cc
-has-header (Some header) first e = refl
 
 permit-map : {A B : Type 0} (f : A → B) (r : Result A Cause) → permit (map_ok f r) ≡ permit r
 permit-map f (Ok done) = refl
@@ -81,22 +70,22 @@ module _ (charge : Charge) (sizes : Sizes) (node : ℕ) (proc : ProcView) (cache
 
     pub hit-waits : is_some proc.want ≡ true → act HitNext ≡ Err Outstanding
     unfolding local
-    hit-waits wanted = ap (λ o. with_next share o (hit_next sizes node share)) next ∙ yes (is_outstanding proc.want) _ _ (outstanding proc.want wanted)
+    hit-waits wanted = ap (λ o. with_next share o (hit_next sizes node share)) next ∙ cond-true (is_outstanding proc.want) _ _ (outstanding proc.want wanted)
 
     pub issue-waits : is_some proc.want ≡ true → act IssueNext ≡ Err Outstanding
     unfolding local
-    issue-waits wanted = ap (λ o. with_next share o (issue_next charge sizes node share)) next ∙ yes (is_outstanding proc.want) _ _ (outstanding proc.want wanted)
+    issue-waits wanted = ap (λ o. with_next share o (issue_next charge sizes node share)) next ∙ cond-true (is_outstanding proc.want) _ _ (outstanding proc.want wanted)
 
     module _ (free : proc.want ≡ None) where
       hits : act HitNext ≡ cond (serves op (copy_in cache.copies line)) (Ok (by_row sizes node share line (hit op here))) (Err Miss)
       unfolding local copy_of
-      hits = ap (λ o. with_next share o (hit_next sizes node share)) next ∙ no (is_outstanding proc.want) _ _ (ap is_outstanding free)
+      hits = ap (λ o. with_next share o (hit_next sizes node share)) next ∙ cond-false (is_outstanding proc.want) _ _ (ap is_outstanding free)
 
       pub hit-misses : serves op (copy_in cache.copies line) ≡ false → act HitNext ≡ Err Miss
-      hit-misses off = hits ∙ no (serves op (copy_in cache.copies line)) _ _ off
+      hit-misses off = hits ∙ cond-false (serves op (copy_in cache.copies line)) _ _ off
 
       pub hit-may : serves op (copy_in cache.copies line) ≡ true → Ok tt ≡ permit (act HitNext)
-      hit-may on = sym (ap permit (hits ∙ yes (serves op (copy_in cache.copies line)) _ _ on))
+      hit-may on = sym (ap permit (hits ∙ cond-true (serves op (copy_in cache.copies line)) _ _ on))
 
       pub hit-does : (proc' : ProcView) (cache' : CacheView) (out : SendList) → AreHeaders sizes node headers → IsProgramOf sizes node proc.program → serves op (copy_in cache.copies line) ≡ true →
           proc' ≡ record proc { place = suc proc.place; want = None } → cache' ≡ with_copy cache line (done_on op (copy_in cache.copies line)) →
@@ -104,7 +93,7 @@ module _ (charge : Charge) (sizes : Sizes) (node : ℕ) (proc : ProcView) (cache
       unfolding hit copy_of header_in
       hit-does proc' cache' out has program on proc-is cache-is = record {
         outcome = by_row sizes node share line (hit op here);
-        is = hits ∙ yes (serves op (copy_in cache.copies line)) _ _ on;
+        is = hits ∙ cond-true (serves op (copy_in cache.copies line)) _ _ on;
         share = row-share sizes node line proc cache.copies headers (hit op) proc' cache'.copies headers
             (ap (λ p. p.place) proc-is)
             (ap (λ p. p.want) proc-is ∙ sym (ap (λ k. want_after sizes k line (want_on sizes k line)) free))
@@ -114,19 +103,16 @@ module _ (charge : Charge) (sizes : Sizes) (node : ℕ) (proc : ProcView) (cache
         told = effect-own node proc.program proc.place [] (by_row sizes node share line (hit op here)) sizes op (words_of (copy_in cache.copies line)) program next refl refl;
       }
         where
-          same : (a b : ℕ) → (a == b) ≡ true → b ≡ a
-          same a b e = grind (arith, nat_tests)
-
           kept : (b : Bool) → (node == home_of sizes line) ≡ b → headers ≡ cond b (fin.insert headers line (unwrap_or (fin.get headers line) (first_header sizes))) headers
-          kept true e = sym (put-same headers line (unwrap_or (fin.get headers line) (first_header sizes)) (has-header (fin.get headers line) (first_header sizes) (has line (same node (home_of sizes line) e))))
+          kept true e = sym (put-same headers line (unwrap_or (fin.get headers line) (first_header sizes)) (some_held (fin.get headers line) (first_header sizes) (has line (sym (eqb-true node (home_of sizes line) e)))))
           kept false e = refl
 
       issues : act IssueNext ≡ cond (serves op (copy_in cache.copies line)) (Err HitFirst) (cond (conflicts sizes share line) (Err Conflict) (map_ok (by_row sizes node share line) (begin_op node (home_of sizes line) (room_of charge sizes share) op here)))
       unfolding local copy_of
-      issues = ap (λ o. with_next share o (issue_next charge sizes node share)) next ∙ no (is_outstanding proc.want) _ _ (ap is_outstanding free)
+      issues = ap (λ o. with_next share o (issue_next charge sizes node share)) next ∙ cond-false (is_outstanding proc.want) _ _ (ap is_outstanding free)
 
       pub issue-hits : serves op (copy_in cache.copies line) ≡ true → act IssueNext ≡ Err HitFirst
-      issue-hits on = issues ∙ yes (serves op (copy_in cache.copies line)) _ _ on
+      issue-hits on = issues ∙ cond-true (serves op (copy_in cache.copies line)) _ _ on
 
       module _ (off : serves op (copy_in cache.copies line) ≡ false) (same : cache.sizes ≡ sizes) where
         conflicts-is : conflicts sizes share line ≡ is_set_taken cache line
@@ -134,22 +120,19 @@ module _ (charge : Charge) (sizes : Sizes) (node : ℕ) (proc : ProcView) (cache
         conflicts-is = ap (λ z. is_set_taken (record { sizes = z; copies = cache.copies }) line) (sym same)
 
         pub issue-conflicts : is_set_taken cache line ≡ true → act IssueNext ≡ Err Conflict
-        issue-conflicts taken = issues ∙ no (serves op (copy_in cache.copies line)) _ _ off ∙ yes (conflicts sizes share line) _ _ (conflicts-is ∙ taken)
+        issue-conflicts taken = issues ∙ cond-false (serves op (copy_in cache.copies line)) _ _ off ∙ cond-true (conflicts sizes share line) _ _ (conflicts-is ∙ taken)
 
         module _ (alone : is_set_taken cache line ≡ false) where
           begins : act IssueNext ≡ map_ok (by_row sizes node share line) (cond (node == home_of sizes line) (begin_at_home (home_of sizes line) (room_of charge sizes share) op here) (Ok (ask (home_of sizes line) op here)))
           unfolding begin_op copy_of
           begins =
-              issues ∙ no (serves op (copy_in cache.copies line)) _ _ off ∙ no (conflicts sizes share line) _ _ (conflicts-is ∙ alone)
-              ∙ ap (map_ok (by_row sizes node share line)) (no (serves op (copy_in cache.copies line)) _ _ off)
+              issues ∙ cond-false (serves op (copy_in cache.copies line)) _ _ off ∙ cond-false (conflicts sizes share line) _ _ (conflicts-is ∙ alone)
+              ∙ ap (map_ok (by_row sizes node share line)) (cond-false (serves op (copy_in cache.copies line)) _ _ off)
 
           module _ (own : home_of sizes line ≡ node) where
             at-home : act IssueNext ≡ map_ok (by_row sizes node share line) (begin_at_home node (room_of charge sizes share) op here)
             at-home =
-                begins ∙ ap (map_ok (by_row sizes node share line)) (yes (node == home_of sizes line) _ _ (test node (home_of sizes line) own) ∙ ap (λ k. begin_at_home k (room_of charge sizes share) op here) own)
-              where
-                test : (a b : ℕ) → b ≡ a → (a == b) ≡ true
-                test a b e = grind (arith, nat_tests)
+                begins ∙ ap (map_ok (by_row sizes node share line)) (cond-true (node == home_of sizes line) _ _ (eq-eqb node (home_of sizes line) (sym own)) ∙ ap (λ k. begin_at_home k (room_of charge sizes share) op here) own)
 
             pub issue-may : permit (act IssueNext) ≡ permit (begin_at_home node (room_of charge sizes share) op here)
             issue-may = ap permit at-home ∙ permit-map (by_row sizes node share line) (begin_at_home node (room_of charge sizes share) op here)
@@ -167,12 +150,12 @@ module _ (charge : Charge) (sizes : Sizes) (node : ℕ) (proc : ProcView) (cache
             }
 
           pub issue-away : (node == home_of sizes line) ≡ false → Ok tt ≡ permit (act IssueNext)
-          issue-away away = sym (ap permit (begins ∙ ap (map_ok (by_row sizes node share line)) (no (node == home_of sizes line) _ _ away)))
+          issue-away away = sym (ap permit (begins ∙ ap (map_ok (by_row sizes node share line)) (cond-false (node == home_of sizes line) _ _ away)))
 
           pub issue-asks : (new : Share) (out out' : SendList) → (node == home_of sizes line) ≡ false → DoesRow sizes node share new out out' line (ask (home_of sizes line) op) → Acts node proc.program proc.place [] (act IssueNext) new out out' nothing
           issue-asks new out out' away row = record {
             outcome = row_at sizes node share line (ask (home_of sizes line) op);
-            is = begins ∙ ap (map_ok (by_row sizes node share line)) (no (node == home_of sizes line) _ _ away);
+            is = begins ∙ ap (map_ok (by_row sizes node share line)) (cond-false (node == home_of sizes line) _ _ away);
             share = row.share;
             sends = row.sends;
             told = let q = ask-quiet (home_of sizes line) op here in effect-none node proc.program proc.place [] (row_at sizes node share line (ask (home_of sizes line) op)) q.0 q.1;

@@ -1,66 +1,59 @@
 -- Which row begins an operation at the line's home.
 use Rattle.std.proofs.Common.{◌≡◌, ℕ, ◌<◌, Bool, true, false, cond, not, ◌&&◌, Result, Ok, Err, refl, sym, ap, ◌∙◌, subst, arith}
+use Rattle.std.proofs.lemmas.Bool.{cond-true, cond-false}
 use Rattle.op_model.specs.declared.events.Cause.{Cause}
 use Rattle.op_model.specs.declared.events.Cause.TheVariants.{HeldPending, HeldBudget}
 use Rattle.op_model.specs.declared.operations.Op.{Op}
-use Rattle.op_model.specs.declared.state.Wait.{Wait}
-use Rattle.op_model.specs.declared.state.Wait.TheVariants.{Idle, Invalidate, ForwardGet, ForwardGetX}
+use Rattle.op_model.specs.declared.state.Wait.TheVariants.{Idle}
 use Rattle.op_model.specs.Nodes.{count}
 use Rattle.op_model.specs.Operations.{is_load}
-use Rattle.op_model.specs.Lines.{Copy, Absent, Shared, Exclusive, Header, LineShare, Outcome, Room, is_idle, is_pending, is_exclusive, nobody_listed}
+use Rattle.op_model.specs.Lines.{Header, LineShare, Outcome, Room, is_idle, is_pending, nobody_listed}
 use Rattle.op_model.specs.OwnPart.{IsOwnLine, IsOwnWait}
 use Rattle.op_model.specs.Events.Node.{permit}
 use Rattle.op_model.specs.Tables.Processor.{begin_at_home, load_at_home, write_at_home, invalidate_for_home, forward_get_home, forward_getx_home, serves}
-
-yes : {A : Type 0} (b : Bool) (x y : A) → b ≡ true → cond b x y ≡ x
-yes true x y e = refl
-yes false x y e = cc
-
-no : {A : Type 0} (b : Bool) (x y : A) → b ≡ false → cond b x y ≡ y
-no true x y e = cc
-no false x y e = refl
+use Rattle.op_model.proofs.Shares.{unserved-shared, idle-wait}
 
 module _ (node : ℕ) (room : Room) (op : Op) (share : LineShare) where
   pub begin-pending : is_idle share.header.wait ≡ false → begin_at_home node room op share ≡ Err HeldPending
   unfolding begin_at_home
-  begin-pending waits = yes (is_pending share.header) _ _ (ap not waits)
+  begin-pending waits = cond-true (is_pending share.header) _ _ (ap not waits)
 
   module _ (idle : is_idle share.header.wait ≡ true) where
     module _ (dirty : share.header.dirty ≡ true) where
       owned : begin_at_home node room op share ≡ cond room.full (Err HeldBudget) (cond (is_load op.kind) (Ok (forward_get_home node op share)) (Ok (forward_getx_home node op share)))
       unfolding begin_at_home
       owned =
-          no (is_pending share.header) _ _ (ap not idle)
+          cond-false (is_pending share.header) _ _ (ap not idle)
           ∙ ap (λ d. cond (not d && is_load op.kind) (Ok (load_at_home op share)) (cond (not d && nobody_listed share.header.list) (Ok (write_at_home op share)) (cond room.full (Err HeldBudget) (cond (not d) (Ok (invalidate_for_home op share)) (cond (is_load op.kind) (Ok (forward_get_home node op share)) (Ok (forward_getx_home node op share))))))) dirty
 
       pub begin-owned_full : room.full ≡ true → begin_at_home node room op share ≡ Err HeldBudget
-      begin-owned_full full = owned ∙ yes room.full _ _ full
+      begin-owned_full full = owned ∙ cond-true room.full _ _ full
 
       pub begin-get : room.full ≡ false → is_load op.kind ≡ true → begin_at_home node room op share ≡ Ok (forward_get_home node op share)
-      begin-get full load = owned ∙ no room.full _ _ full ∙ yes (is_load op.kind) _ _ load
+      begin-get full load = owned ∙ cond-false room.full _ _ full ∙ cond-true (is_load op.kind) _ _ load
 
       pub begin-getx : room.full ≡ false → is_load op.kind ≡ false → begin_at_home node room op share ≡ Ok (forward_getx_home node op share)
-      begin-getx full write = owned ∙ no room.full _ _ full ∙ no (is_load op.kind) _ _ write
+      begin-getx full write = owned ∙ cond-false room.full _ _ full ∙ cond-false (is_load op.kind) _ _ write
 
     module _ (clean : share.header.dirty ≡ false) where
       fresh : begin_at_home node room op share ≡ cond (is_load op.kind) (Ok (load_at_home op share)) (cond (nobody_listed share.header.list) (Ok (write_at_home op share)) (cond room.full (Err HeldBudget) (Ok (invalidate_for_home op share))))
       unfolding begin_at_home
       fresh =
-          no (is_pending share.header) _ _ (ap not idle)
+          cond-false (is_pending share.header) _ _ (ap not idle)
           ∙ ap (λ d. cond (not d && is_load op.kind) (Ok (load_at_home op share)) (cond (not d && nobody_listed share.header.list) (Ok (write_at_home op share)) (cond room.full (Err HeldBudget) (cond (not d) (Ok (invalidate_for_home op share)) (cond (is_load op.kind) (Ok (forward_get_home node op share)) (Ok (forward_getx_home node op share))))))) clean
 
       pub begin-load : is_load op.kind ≡ true → begin_at_home node room op share ≡ Ok (load_at_home op share)
-      begin-load load = fresh ∙ yes (is_load op.kind) _ _ load
+      begin-load load = fresh ∙ cond-true (is_load op.kind) _ _ load
 
       module _ (write : is_load op.kind ≡ false) where
         pub begin-write : nobody_listed share.header.list ≡ true → begin_at_home node room op share ≡ Ok (write_at_home op share)
-        begin-write nobody = fresh ∙ no (is_load op.kind) _ _ write ∙ yes (nobody_listed share.header.list) _ _ nobody
+        begin-write nobody = fresh ∙ cond-false (is_load op.kind) _ _ write ∙ cond-true (nobody_listed share.header.list) _ _ nobody
 
         pub begin-called_full : nobody_listed share.header.list ≡ false → room.full ≡ true → begin_at_home node room op share ≡ Err HeldBudget
-        begin-called_full some full = fresh ∙ no (is_load op.kind) _ _ write ∙ no (nobody_listed share.header.list) _ _ some ∙ yes room.full _ _ full
+        begin-called_full some full = fresh ∙ cond-false (is_load op.kind) _ _ write ∙ cond-false (nobody_listed share.header.list) _ _ some ∙ cond-true room.full _ _ full
 
         pub begin-called : nobody_listed share.header.list ≡ false → room.full ≡ false → begin_at_home node room op share ≡ Ok (invalidate_for_home op share)
-        begin-called some full = fresh ∙ no (is_load op.kind) _ _ write ∙ no (nobody_listed share.header.list) _ _ some ∙ no room.full _ _ full
+        begin-called some full = fresh ∙ cond-false (is_load op.kind) _ _ write ∙ cond-false (nobody_listed share.header.list) _ _ some ∙ cond-false room.full _ _ full
 
 -- whether an operation has to wait at its line's home
 abbrev pub has_to_wait : Op → Header → Bool
@@ -135,31 +128,14 @@ load-rests op header e f = ap (λ d. not (not d && is_load op.kind) && not (not 
 pub write-waits : (op : Op) (header : Header) → header.dirty ≡ false → is_load op.kind ≡ false → has_to_wait op header ≡ not (nobody_listed header.list)
 write-waits op header e f = ap (λ d. not (not d && is_load op.kind) && not (not d && nobody_listed header.list)) e ∙ ap (λ l. not l && not (nobody_listed header.list)) f
 
--- what is refused is refused for this cause
-pub refuses : {A : Type 0} (act : Result A Cause) (cause : Cause) → Err cause ≡ permit act → act ≡ Err cause
-refuses (Ok done) cause e = cc
-refuses (Err other) cause e = cc
-
 -- what is allowed is done
 pub permits : {A : Type 0} (act : Result A Cause) (done : A) → act ≡ Ok done → Ok tt ≡ permit act
 permits act done e = sym (ap permit e)
 
--- an exclusive copy serves whatever is next
-unserved-shared : (op : Op) (copy : Copy) → serves op copy ≡ false → is_exclusive copy ≡ false
-unserved-shared op Absent e = refl
-unserved-shared op (Shared words) e = refl
-unserved-shared op (Exclusive words) e = cc
-
-idle-is : (wait : Wait) → is_idle wait ≡ true → wait ≡ Idle
-idle-is Idle e = refl
-idle-is (Invalidate g) e = cc
-idle-is (ForwardGet r) e = cc
-idle-is (ForwardGetX r) e = cc
-
 -- so a dirty line that is idle is another node's, who alone is listed
 module _ (home : ℕ) (share : LineShare) (op : Op) (own : IsOwnLine home share) (idle : is_idle share.header.wait ≡ true) where
   resting : IsOwnWait home Idle share
-  resting = subst (λ w. IsOwnWait home w share) (idle-is share.header.wait idle) own.waiting
+  resting = subst (λ w. IsOwnWait home w share) (idle-wait share.header.wait idle) own.waiting
 
   pub no-acks : share.header.acks ≡ 0
   no-acks = resting.0

@@ -1,6 +1,7 @@
 -- A line is called in, or why not.
 use Rattle.std.proofs.Common.{◌≡◌, ◌⊎◌, inl, inr, ℕ, ◌+◌, ◌*◌, ◌%◌, ◌-◌, ◌<◌, ◌==◌, ◌&&◌, Bool, true, false, cond, not, subst, Result, Ok, Err, refl, sym, ap, ◌∙◌, arith, length}
 use Rattle.std.specs.Prelude.{is_err, OnOk}
+use Rattle.std.proofs.lemmas.Bool.{cond-true, cond-false, both_ways}
 use Rattle.std.proofs.lemmas.Bool.Decides.{nat_tests}
 use Rattle.std.proofs.lemmas.Nat.{div-mul-add, mod-mul-add}
 use Rattle.line_map.specs.Sizes.{home_of}
@@ -21,40 +22,27 @@ use Rattle.dir_header.specs.HomeSides.{HomeView, IsHome, room_in, header_at, wit
 use Rattle.msg_words.specs.SendList.{SendList}
 use Rattle.node_share.specs.Parts.{share_of, AreCopies, DoesRow, sent}
 use Rattle.node_share.proofs.Copies.{copy-kept}
-use Rattle.node_share.proofs.Homes.{on-ok, never-true, Puts, puts-once, puts-read}
+use Rattle.node_share.proofs.Homes.{on-ok, Puts, puts-once, puts-read}
 use Rattle.node_share.proofs.Rows.{home-row}
-
-yes : {A : Type 0} (b : Bool) (x y : A) → b ≡ true → cond b x y ≡ x
-yes true x y e = refl
-yes false x y e = cc
-
-no : {A : Type 0} (b : Bool) (x y : A) → b ≡ false → cond b x y ≡ y
-no true x y e = cc
-no false x y e = refl
 
 module _ (room : Room) (share : LineShare) where
   pub no-links : holds_link room share.header ≡ false → reclaim room share ≡ Err NoLinks
   unfolding reclaim
-  no-links e = yes (not (holds_link room share.header)) _ _ (ap not e)
+  no-links e = cond-true (not (holds_link room share.header)) _ _ (ap not e)
 
   module _ (holds : holds_link room share.header ≡ true) where
     pub line-pending : is_idle share.header.wait ≡ false → reclaim room share ≡ Err LinePending
     unfolding reclaim
-    line-pending e = no (not (holds_link room share.header)) _ _ (ap not holds) ∙ yes (is_pending share.header) _ _ (ap not e)
+    line-pending e = cond-false (not (holds_link room share.header)) _ _ (ap not holds) ∙ cond-true (is_pending share.header) _ _ (ap not e)
 
     module _ (idle : is_idle share.header.wait ≡ true) where
       pub budget-full : room.full ≡ true → reclaim room share ≡ Err BudgetFull
       unfolding reclaim
-      budget-full e = no (not (holds_link room share.header)) _ _ (ap not holds) ∙ no (is_pending share.header) _ _ (ap not idle) ∙ yes room.full _ _ e
+      budget-full e = cond-false (not (holds_link room share.header)) _ _ (ap not holds) ∙ cond-false (is_pending share.header) _ _ (ap not idle) ∙ cond-true room.full _ _ e
 
       pub calls-in : room.full ≡ false → reclaim room share ≡ Ok (call_in share)
       unfolding reclaim
-      calls-in e = no (not (holds_link room share.header)) _ _ (ap not holds) ∙ no (is_pending share.header) _ _ (ap not idle) ∙ no room.full _ _ e
-
--- what is refused is refused for this cause
-pub refuses : {A : Type 0} (act : Result A Cause) (cause : Cause) → Err cause ≡ permit act → act ≡ Err cause
-refuses (Ok done) cause e = cc
-refuses (Err other) cause e = cc
+      calls-in e = cond-false (not (holds_link room share.header)) _ _ (ap not holds) ∙ cond-false (is_pending share.header) _ _ (ap not idle) ∙ cond-false room.full _ _ e
 
 -- and a line that can be called in is idle, has room, and is called in
 pub allows : (room : Room) (share : LineShare) → Ok tt ≡ permit (reclaim room share) → (is_idle share.header.wait ≡ true) × (room.full ≡ false) × (reclaim room share ≡ Ok (call_in share))
@@ -72,7 +60,7 @@ allows room share e = by (holds_link room share.header) (is_idle share.header.wa
 
 -- where there is room, a line does begin to wait
 pub begun : {P : Type 0} (r : Result (Unit {0}) Full) (full : Bool) → full ≡ false → (is_err r ≡ true → full ≡ true) → OnOk r P → P
-begun r full room refused done = on-ok r (λ e. never-true full room (refused e)) done
+begun r full room refused done = on-ok r (λ e. both_ways full room (refused e)) done
 
 module _ {D : Type 0} (home h1 : HomeView D) (line : ℕ) (out out' : SendList) (own : home_of home.sizes line ≡ home.node) (first : h1 ≡ with_header home line (made_pending (header_at home line) (Invalidate Nobody))) where
   abbrev h : Header

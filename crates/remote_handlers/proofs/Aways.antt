@@ -10,6 +10,7 @@ use Rattle.op_model.specs.Lines.{Copy, Absent, Shared, Exclusive, LineShare, NoS
 use Rattle.op_model.specs.Shares.{copy_of, line_share, want_on, want_after, copy_in, Headers}
 use Rattle.op_model.specs.Events.Node.{messages}
 use Rattle.op_model.specs.Tables.Remote.{on_fwd_get, on_fwd_getx, on_inv, gone}
+use Rattle.op_model.proofs.Shares.{want-stays}
 use Rattle.cpu_cache.specs.Effects.{effect_of, nothing, load_by}
 use Rattle.cpu_cache.specs.declared.effects.Effect.{Effect}
 use Rattle.cpu_cache.specs.Caches.{CacheView, with_copy}
@@ -17,7 +18,7 @@ use Rattle.cpu_cache.specs.Processors.{ProcView}
 use Rattle.msg_words.specs.SendList.{SendList}
 use Rattle.node_share.specs.Parts.{share_of, row_at, sent, AreCopies, DoesRow}
 use Rattle.node_share.proofs.Copies.{copy-kept}
-use Rattle.node_share.proofs.Rows.{away-row, want-kept}
+use Rattle.node_share.proofs.Rows.{away-row}
 use Rattle.node_share.proofs.Wants.{effect-none, effect-for}
 
 -- the messages of an answer, and of a report to the home where it isn't the requester
@@ -72,7 +73,7 @@ module _ (sizes : Sizes) (node line req : ℕ) (cache : CacheView) (out : SendLi
     module _ (row : LineShare → Outcome) (is : row at ≡ gone home req at) (out' : SendList) (held : AreCopies cache.copies) (pushed : out' ≡ sent out ((req, msg.Nak line Gone) ∷ (home, msg.Nakc line) ∷ [])) where
       gone-does : Does cache out' row
       unfolding copy_of
-      gone-does = away-row sizes node line proc proc cache.copies cache.copies headers out out' row (gone home req at) away is (sym (copy-kept cache.copies line held)) refl (sym (want-kept sizes proc.want line)) pushed
+      gone-does = away-row sizes node line proc proc cache.copies cache.copies headers out out' row (gone home req at) away is (sym (copy-kept cache.copies line held)) refl (sym (want-stays sizes proc.want line)) pushed
 
     pub get-gone-does : (out' : SendList) → AreCopies cache.copies → out' ≡ sent out ((req, msg.Nak line Gone) ∷ (home, msg.Nakc line) ∷ []) → Does cache out' (on_fwd_get home req)
     get-gone-does out' held pushed = gone-does (on_fwd_get home req) get-gone out' held pushed
@@ -105,7 +106,7 @@ module _ (sizes : Sizes) (node line req : ℕ) (cache : CacheView) (out : SendLi
     pub get-does : (cache' : CacheView) (out' : SendList) (words : Words) → words ≡ words_of copy → cache' ≡ with_copy cache line (Shared (words_of copy)) →
         out' ≡ sent out (cond (req == home) ((home, msg.Put line words) ∷ []) ((req, msg.Put line words) ∷ (home, msg.ShWb line words) ∷ [])) → Does cache' out' (on_fwd_get home req)
     get-does cache' out' words are cache-is pushed =
-        away-row sizes node line proc proc cache.copies cache'.copies headers out out' (on_fwd_get home req) shared away get-shared (ap (λ c. c.copies) cache-is) refl (sym (want-kept sizes proc.want line))
+        away-row sizes node line proc proc cache.copies cache'.copies headers out out' (on_fwd_get home req) shared away get-shared (ap (λ c. c.copies) cache-is) refl (sym (want-stays sizes proc.want line))
         (pushed ∙ ap (λ w. sent out (cond (req == home) ((home, msg.Put line w) ∷ []) ((req, msg.Put line w) ∷ (home, msg.ShWb line w) ∷ []))) are
         ∙ ap (sent out) (sym (sends-are line home req (req == home) (Put (words_of copy)) (ShWb (words_of copy)))))
 
@@ -115,7 +116,7 @@ module _ (sizes : Sizes) (node line req : ℕ) (cache : CacheView) (out : SendLi
     pub getx-does : (cache' : CacheView) (out' : SendList) (words : Words) → words ≡ words_of copy → cache' ≡ with_copy cache line Absent →
         out' ≡ sent out (cond (req == home) ((home, msg.PutX line words) ∷ []) ((req, msg.PutX line words) ∷ (home, msg.FAck line) ∷ [])) → Does cache' out' (on_fwd_getx home req)
     getx-does cache' out' words are cache-is pushed =
-        away-row sizes node line proc proc cache.copies cache'.copies headers out out' (on_fwd_getx home req) handed away getx-handed (ap (λ c. c.copies) cache-is) refl (sym (want-kept sizes proc.want line))
+        away-row sizes node line proc proc cache.copies cache'.copies headers out out' (on_fwd_getx home req) handed away getx-handed (ap (λ c. c.copies) cache-is) refl (sym (want-stays sizes proc.want line))
         (pushed ∙ ap (λ w. sent out (cond (req == home) ((home, msg.PutX line w) ∷ []) ((req, msg.PutX line w) ∷ (home, msg.FAck line) ∷ []))) are
         ∙ ap (sent out) (sym (sends-are line home req (req == home) (PutX (words_of copy)) FAck)))
 

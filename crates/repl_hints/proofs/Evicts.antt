@@ -1,5 +1,6 @@
 -- Which eviction is done, or why not.
 use Rattle.std.proofs.Common.{◌≡◌, ℕ, Bool, true, false, cond, not, ◌&&◌, ◌==◌, Result, Ok, Err, refl, ap, ◌∙◌}
+use Rattle.std.proofs.lemmas.Bool.{cond-true, cond-false}
 use Rattle.line_map.specs.Sizes.{Sizes, home_of}
 use Rattle.op_model.specs.declared.events.Cause.{Cause}
 use Rattle.op_model.specs.declared.events.Cause.TheVariants.{NoCopy, WrongKind, LaneGate}
@@ -9,15 +10,8 @@ use Rattle.op_model.specs.Lines.{Copy, Absent, Shared, Exclusive, LineShare, Out
 use Rattle.op_model.specs.Shares.{Share, copy_of, line_share}
 use Rattle.op_model.specs.Events.Node.{NodeOutcome, bind, by_row, departs, evict_line, is_silent, permit}
 use Rattle.op_model.specs.Tables.Processor.{evict, fits, leave_home, leave_remote}
+use Rattle.op_model.proofs.Shares.{fits-copy}
 use Rattle.node_share.specs.Parts.{row_at}
-
-yes : {A : Type 0} (b : Bool) (x y : A) → b ≡ true → cond b x y ≡ x
-yes true x y e = refl
-yes false x y e = cc
-
-no : {A : Type 0} (b : Bool) (x y : A) → b ≡ false → cond b x y ≡ y
-no true x y e = cc
-no false x y e = refl
 
 pub is-silent : (kind : EvictKind) → is_silent kind ≡ true → kind ≡ way.Silent
 is-silent way.Wb e = cc
@@ -42,11 +36,6 @@ why-wrong Absent e = cc
 why-wrong (Shared words) e = refl
 why-wrong (Exclusive words) e = refl
 
-fits-held : (b : Bool) (kind : EvictKind) (copy : Copy) → fits b kind copy ≡ true → is_empty copy ≡ false
-fits-held b kind Absent e = cc
-fits-held b kind (Shared words) e = refl
-fits-held b kind (Exclusive words) e = refl
-
 -- the gate of a lane is open where nothing is sent, and where there is room
 pub gate-free : (leaves room : Bool) → leaves ≡ false → (leaves && not room) ≡ false
 gate-free leaves room e = ap (λ b. b && not room) e
@@ -54,11 +43,6 @@ gate-free leaves room e = ap (λ b. b && not room) e
 pub gate-open : (leaves room : Bool) → room ≡ true → (leaves && not room) ≡ false
 gate-open true room e = ap not e
 gate-open false room e = refl
-
--- what is refused is refused for this cause
-pub refuses : {A : Type 0} (act : Result A Cause) (cause : Cause) → Err cause ≡ permit act → act ≡ Err cause
-refuses (Ok done) cause e = cc
-refuses (Err other) cause e = cc
 
 module _ (sizes : Sizes) (node line : ℕ) (kind : EvictKind) (room : Bool) (share : Share) where
   abbrev home : ℕ
@@ -81,7 +65,7 @@ module _ (sizes : Sizes) (node line : ℕ) (kind : EvictKind) (room : Bool) (sha
 
   pub evict-allowed : Ok tt ≡ permit (evict_line sizes node share line kind room) → Allowed
   unfolding evict
-  evict-allowed e = let p = by (fits (node == home) kind copy) (departs (node == home) kind && not room) (cond (node == home) (leave_home copy here) (leave_remote home kind here)) e in record { held = fits-held (node == home) kind copy p.0; fit = p.0; gate = p.1 }
+  evict-allowed e = let p = by (fits (node == home) kind copy) (departs (node == home) kind && not room) (cond (node == home) (leave_home copy here) (leave_remote home kind here)) e in record { held = fits-copy (node == home) kind copy p.0; fit = p.0; gate = p.1 }
     where
       by : (f g : Bool) (o : Outcome) → Ok tt ≡ permit (bind (cond f (Ok o) (Err (why copy))) (λ k. cond g (Err LaneGate) (Ok (by_row sizes node share line k)))) → (f ≡ true) × (g ≡ false)
       by true false o e = (refl, refl)
@@ -90,28 +74,28 @@ module _ (sizes : Sizes) (node line : ℕ) (kind : EvictKind) (room : Bool) (sha
 
   pub evict-none : is_empty copy ≡ true → evict_line sizes node share line kind room ≡ Err NoCopy
   unfolding evict
-  evict-none none = ap (λ r. bind r gated) (no (fits (node == home) kind copy) _ _ (none-fits (node == home) kind copy none) ∙ ap (λ c. Err c) (why-none copy none))
+  evict-none none = ap (λ r. bind r gated) (cond-false (fits (node == home) kind copy) _ _ (none-fits (node == home) kind copy none) ∙ ap (λ c. Err c) (why-none copy none))
 
   pub evict-wrong : is_empty copy ≡ false → fits (node == home) kind copy ≡ false → evict_line sizes node share line kind room ≡ Err WrongKind
   unfolding evict
-  evict-wrong held unfit = ap (λ r. bind r gated) (no (fits (node == home) kind copy) _ _ unfit ∙ ap (λ c. Err c) (why-wrong copy held))
+  evict-wrong held unfit = ap (λ r. bind r gated) (cond-false (fits (node == home) kind copy) _ _ unfit ∙ ap (λ c. Err c) (why-wrong copy held))
 
   module _ (fit : fits (node == home) kind copy ≡ true) where
     fitting : evict_line sizes node share line kind room ≡ gated (cond (node == home) (leave_home copy here) (leave_remote home kind here))
     unfolding evict
-    fitting = ap (λ r. bind r gated) (yes (fits (node == home) kind copy) _ _ fit)
+    fitting = ap (λ r. bind r gated) (cond-true (fits (node == home) kind copy) _ _ fit)
 
     pub evict-may : (departs (node == home) kind && not room) ≡ false → permit (evict_line sizes node share line kind room) ≡ Ok tt
-    evict-may gate = ap permit (fitting ∙ no (departs (node == home) kind && not room) _ _ gate)
+    evict-may gate = ap permit (fitting ∙ cond-false (departs (node == home) kind && not room) _ _ gate)
 
     pub evict-shut : departs (node == home) kind ≡ true → room ≡ false → evict_line sizes node share line kind room ≡ Err LaneGate
-    evict-shut leaves shut = fitting ∙ yes (departs (node == home) kind && not room) _ _ (λ i. leaves i && not (shut i))
+    evict-shut leaves shut = fitting ∙ cond-true (departs (node == home) kind && not room) _ _ (λ i. leaves i && not (shut i))
 
     pub evict-home : (node == home) ≡ true → evict_line sizes node share line kind room ≡ Ok (row_at sizes node share line (λ k. leave_home k.copy k))
     evict-home at =
-        fitting ∙ no (departs (node == home) kind && not room) _ _ (ap (λ b. departs b kind && not room) at)
-        ∙ ap (λ o. Ok (by_row sizes node share line o)) (yes (node == home) _ _ at)
+        fitting ∙ cond-false (departs (node == home) kind && not room) _ _ (ap (λ b. departs b kind && not room) at)
+        ∙ ap (λ o. Ok (by_row sizes node share line o)) (cond-true (node == home) _ _ at)
 
     module _ (away : (node == home) ≡ false) where
       pub evict-away : (departs (node == home) kind && not room) ≡ false → evict_line sizes node share line kind room ≡ Ok (row_at sizes node share line (leave_remote home kind))
-      evict-away gate = fitting ∙ no (departs (node == home) kind && not room) _ _ gate ∙ ap (λ o. Ok (by_row sizes node share line o)) (no (node == home) _ _ away)
+      evict-away gate = fitting ∙ cond-false (departs (node == home) kind && not room) _ _ gate ∙ ap (λ o. Ok (by_row sizes node share line o)) (cond-false (node == home) _ _ away)

@@ -11,13 +11,14 @@ use Rattle.op_model.specs.Shares.{line_share, copy_of, Copies, copy_in, Headers}
 use Rattle.op_model.specs.Events.Node.{messages}
 use Rattle.op_model.specs.Tables.Home.{on_rpl}
 use Rattle.op_model.specs.Tables.Processor.{leave_home, leave_remote}
+use Rattle.op_model.proofs.Shares.{want-stays}
 use Rattle.cpu_cache.specs.Caches.{CacheView, with_copy}
 use Rattle.cpu_cache.specs.Processors.{ProcView}
 use Rattle.dir_header.specs.HomeSides.{HomeView, header_at, with_header, unlisted}
 use Rattle.msg_words.specs.SendList.{SendList}
 use Rattle.node_share.specs.Parts.{share_of, row_at, AreCopies, AreHeaders, DoesRow, sent}
 use Rattle.node_share.proofs.Homes.{puts-once, puts-then, puts-none}
-use Rattle.node_share.proofs.Rows.{home-row, header-row, away-row, want-kept}
+use Rattle.node_share.proofs.Rows.{home-row, header-row, away-row}
 use Rattle.node_share.proofs.Wants.{sent-none}
 
 exclusive-row : (copy : Copy) (share : LineShare) → is_exclusive copy ≡ true → leave_home copy share ≡ sending (record share { copy = Absent; header = record share.header { local = false; dirty = false; memory = words_of copy } }) no_message
@@ -102,14 +103,14 @@ module _ (sizes : Sizes) (node line at : ℕ) (cache cache' : CacheView) (out ou
   unfolding copy_of
   goes-back kind words is are pushed =
       away-row sizes node line proc proc cache.copies cache'.copies headers out out' (leave_remote at kind) (leave_remote at way.Wb (line_share sizes (share_of proc cache.copies headers) line)) away
-      (ap (λ k. leave_remote at k (line_share sizes (share_of proc cache.copies headers) line)) is) (ap (λ c. c.copies) dropped) refl (sym (want-kept sizes proc.want line)) (pushed ∙ ap (λ w. sent out ((at, msg.Wb line w) ∷ [])) are)
+      (ap (λ k. leave_remote at k (line_share sizes (share_of proc cache.copies headers) line)) is) (ap (λ c. c.copies) dropped) refl (sym (want-stays sizes proc.want line)) (pushed ∙ ap (λ w. sent out ((at, msg.Wb line w) ∷ [])) are)
 
   pub goes-hinting : (kind : EvictKind) → kind ≡ way.Hint → out' ≡ sent out ((at, msg.Rpl line) ∷ []) → Goes kind
   goes-hinting kind is pushed =
       away-row sizes node line proc proc cache.copies cache'.copies headers out out' (leave_remote at kind) (leave_remote at way.Hint (line_share sizes (share_of proc cache.copies headers) line)) away
-      (ap (λ k. leave_remote at k (line_share sizes (share_of proc cache.copies headers) line)) is) (ap (λ c. c.copies) dropped) refl (sym (want-kept sizes proc.want line)) pushed
+      (ap (λ k. leave_remote at k (line_share sizes (share_of proc cache.copies headers) line)) is) (ap (λ c. c.copies) dropped) refl (sym (want-stays sizes proc.want line)) pushed
 
   pub goes-silently : (kind : EvictKind) → kind ≡ way.Silent → out' ≡ out → Goes kind
   goes-silently kind is same =
       away-row sizes node line proc proc cache.copies cache'.copies headers out out' (leave_remote at kind) (leave_remote at way.Silent (line_share sizes (share_of proc cache.copies headers) line)) away
-      (ap (λ k. leave_remote at k (line_share sizes (share_of proc cache.copies headers) line)) is) (ap (λ c. c.copies) dropped) refl (sym (want-kept sizes proc.want line)) (same ∙ sent-none out)
+      (ap (λ k. leave_remote at k (line_share sizes (share_of proc cache.copies headers) line)) is) (ap (λ c. c.copies) dropped) refl (sym (want-stays sizes proc.want line)) (same ∙ sent-none out)

@@ -2,6 +2,7 @@
 -- Nothing is under way of any line, so that no operation on it is begun and it isn't pending; and a home has headers of its own lines
 -- alone, so that it has no pending one.
 use Rattle.std.proofs.Common.{◌≡◌, ℕ, ◌<◌, ◌≤◌, Bool, true, false, cond, ◌==◌, ◌⊎◌, inl, inr, List, [], ◌∷◌, refl, arith, ap, sym, ◌∙◌, Option, Some, None}
+use Rattle.std.proofs.lemmas.Bool.{cases_lt}
 use Rattle.std.specs.List.{list_any}
 use Rattle.std.specs.FinMap as fin
 use Rattle.line_map.specs.Sizes.{Sizes, home_of, line_of}
@@ -12,7 +13,7 @@ use Rattle.op_model.specs.Run.Rest.{IsAtRest}
 use Rattle.op_model.specs.Run.Runs.{Past, run}
 use Rattle.op_model.specs.Run.Weight.{IsClear, IsEmpty}
 use Rattle.op_model.specs.Shares.{Charge, Trace, State, header_of, want_on}
-use Rattle.line_invariant.proofs.Basics.{eq-self}
+use Rattle.op_model.proofs.Plain.{eqb-self}
 use Rattle.one_history.specs.Project.{of_line, project, line_words}
 use Rattle.one_history.specs.Sound.{IsSound, answered_of}
 use Rattle.lane_bounds.proofs.Homes.{one_if}
@@ -22,7 +23,6 @@ use Rattle.lane_bounds.proofs.Sums.{over, over-cons}
 use Rattle.link_refusals.proofs.Entries.{Found, found}
 use Rattle.node_range.specs.Range.{IsOfMachine, IsRanged}
 use Rattle.node_range.proofs.Events.{ranged-run}
-use Rattle.node_range.proofs.Programs.{below}
 use Rattle.rest_laws.proofs.Links.{entry-own, header-found}
 use Rattle.rest_laws.proofs.Quiet.{quiet-header, quiet-want}
 
@@ -32,7 +32,7 @@ count-none test (e ∷ es) h = let ih = count-none test es in let c = over-cons 
 
 none-begun : (sizes : Sizes) (want : Option Want) → ((line : ℕ) → want_on sizes want line ≡ None) → want ≡ None
 none-begun sizes None h = refl
-none-begun sizes (Some want) h = absurd (go (line_of sizes want.op.word == line_of sizes want.op.word) (eq-self (line_of sizes want.op.word)) (h (line_of sizes want.op.word)))
+none-begun sizes (Some want) h = absurd (go (line_of sizes want.op.word == line_of sizes want.op.word) (eqb-self (line_of sizes want.op.word)) (h (line_of sizes want.op.word)))
   where
     go : (c : Bool) → c ≡ true → cond c (Some want) None ≡ None → ⊥
     go true e n = cc
@@ -64,7 +64,7 @@ resting charge trace events past positive runs empty = let both = bounded-run ch
 
 -- a state with no message between its nodes, and none elsewhere, has none at all
 pub all-clear : (sizes : Sizes) (state : State) → IsClear sizes state → IsRanged sizes state → IsEmpty state
-all-clear sizes state clear ranged a b class = go (below a sizes.nodes) (below b sizes.nodes)
+all-clear sizes state clear ranged a b class = go (cases_lt a sizes.nodes) (cases_lt b sizes.nodes)
   where
     go : (a < sizes.nodes) ⊎ (sizes.nodes ≤ a) → (b < sizes.nodes) ⊎ (sizes.nodes ≤ b) → state.lane a b class ≡ []
     go (inl x) (inl y) = clear a b class x y

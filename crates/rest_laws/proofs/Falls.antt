@@ -1,7 +1,7 @@
 -- A message that is taken lowers the weight.
 -- What its row sends is lighter than the message; and where a line is called in too, the refusal and an Inv to each listed node of that
 -- line together are lighter than the Get.
-use Rattle.std.proofs.Common.{◌≡◌, ℕ, ◌*◌, ◌<◌, Bool, true, false, ◌==◌, ◌&&◌, not, List, ◌∷◌, arith, sym, subst, Option, Some, Ok}
+use Rattle.std.proofs.Common.{◌≡◌, ℕ, ◌*◌, ◌<◌, true, false, ◌==◌, not, List, ◌∷◌, arith, sym, subst, Option, Some, Ok}
 use Rattle.std.proofs.lemmas.Bool.Decides.{nat_tests}
 use Rattle.line_map.specs.Sizes.{Sizes, home_of}
 use Rattle.op_model.specs.declared.events.Class.{Class}
@@ -18,6 +18,7 @@ use Rattle.op_model.specs.Run.Weight.{weight, weight_of}
 use Rattle.op_model.specs.Shares.{Charge, State, Trace, copy_of, header_of, program, room_of, share_at}
 use Rattle.op_model.specs.Tables.Home.{wants_victim}
 use Rattle.op_model.specs.Tables.Processor.{call_in, holds_link}
+use Rattle.op_model.proofs.Plain.{three_parts}
 use Rattle.one_history.specs.Project.{project}
 use Rattle.one_history.specs.Sound.{IsSound}
 use Rattle.one_history.proofs.Events.{refuses}
@@ -27,9 +28,6 @@ use Rattle.lane_bounds.proofs.Runs.{bounded-run}
 use Rattle.rest_laws.proofs.Lighter.{message-below, refused-below}
 use Rattle.rest_laws.proofs.Sends.{sends-listed}
 use Rattle.rest_laws.proofs.Weights.{weight-sent, weight-taken}
-
-all3 : (a b c : Bool) → (a && b && c) ≡ true → (a ≡ true) × (b ≡ true) × (c ≡ true)
-all3 a b c e = (grind arith, grind arith, grind arith)
 
 module _ (charge : Charge) (trace : Trace) (past : Past) (sound : IsSound trace past) (src dst : ℕ) (src_in : src < trace.sizes.nodes) (dst_in : dst < trace.sizes.nodes) (class : Class) (m : Msg) (rest : List Msg) (front : past.state.lane src dst class ≡ m ∷ rest) where
   abbrev sizes : Sizes
@@ -64,9 +62,9 @@ module _ (charge : Charge) (trace : Trace) (past : Past) (sound : IsSound trace 
 
   falls-call : (g : ℕ) → asks_victim charge sizes state src dst line content ≡ true → is_fit charge sizes state dst g ≡ true → weight sizes (after_row_of sizes dst g (call_in (share_at sizes next dst g)) next) < weight sizes state
   falls-call g asks fit =
-      let want = all3 (is_get content) (dst == home_of sizes line) (wants_victim (room_of charge sizes (state.share dst)) src (share_at sizes state dst line).header) asks in
+      let want = three_parts (is_get content) (dst == home_of sizes line) (wants_victim (room_of charge sizes (state.share dst)) src (share_at sizes state dst line).header) asks in
       let same : outcome.share ≡ share_at sizes state dst line = refuses dst (home_of sizes line) src (is_empty (copy_of (state.share dst) line)) (room_of charge sizes (state.share dst)) content (share_at sizes state dst line) want.0 want.2 in
-      let fits = all3 (home_of sizes g == dst) (holds_link (room_of charge sizes (state.share dst)) (share_at sizes state dst g).header) (not (is_pending (share_at sizes state dst g).header)) fit in
+      let fits = three_parts (home_of sizes g == dst) (holds_link (room_of charge sizes (state.share dst)) (share_at sizes state dst g).header) (not (is_pending (share_at sizes state dst g).header)) fit in
       let here : home_of sizes g ≡ dst = let e = fits.0 in grind (arith, nat_tests) in
       let kept : (share_at sizes next dst g).header ≡ (share_at sizes state dst g).header = row-kept sizes state (taken_of src dst class rest state.lane) dst line g outcome fits.0 same want.1 in
       let off : listed (share_at sizes next dst g).header.list dst ≡ false = subst (λ h. listed h.list dst ≡ false) (sym kept) (subst (λ n. listed (header_of sizes (state.share (home_of sizes g)) g).list n ≡ false) here (unlisted g)) in

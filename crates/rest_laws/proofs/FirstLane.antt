@@ -9,6 +9,7 @@ use Rattle.op_model.specs.declared.messages.Msg.{Msg}
 use Rattle.op_model.specs.Run.Schedules.{Lane, both_lanes, all_nodes, lanes_in_order, is_no_message, first_busy}
 use Rattle.op_model.specs.Run.Weight.{IsClear}
 use Rattle.op_model.specs.Shares.{State}
+use Rattle.op_model.proofs.Shares.{no_message-empty}
 use Rattle.rest_laws.proofs.Lists.{Each, find-some, find-none, each-flat, flat-each, each-range, range-each}
 
 -- a lane between nodes of the machine
@@ -42,10 +43,6 @@ lane-each sizes P all src dst class src_in dst_in = at class
     at Request = both.0
     at Reply = both.1.0
 
-quiet : (ms : List Msg) → not (is_no_message ms) ≡ false → ms ≡ []
-quiet [] e = refl
-quiet (m ∷ ms) e = cc
-
 busy : (ms : List Msg) → not (is_no_message ms) ≡ true → ms ≢ []
 busy [] e is = cc
 busy (m ∷ ms) e is = cc
@@ -60,7 +57,7 @@ module _ (sizes : Sizes) (state : State) where
 
   pub first-none : first_busy sizes state ≡ None → IsClear sizes state
   first-none e src dst class src_in dst_in =
-      quiet (state.lane src dst class) (lane-each sizes (λ lane. has_message lane ≡ false) (find-none has_message (lanes_in_order sizes) e) src dst class src_in dst_in)
+      no_message-empty (state.lane src dst class) (lane-each sizes (λ lane. has_message lane ≡ false) (find-none has_message (lanes_in_order sizes) e) src dst class src_in dst_in)
 
   pub clear-none : IsClear sizes state → first_busy sizes state ≡ None
   clear-none clear = go (first_busy sizes state) refl

@@ -14,6 +14,7 @@ use Rattle.op_model.specs.Nodes.{Nodes, listed, listings, unlist}
 use Rattle.op_model.specs.Run.Weight.{weight_of}
 use Rattle.op_model.specs.Tables.Home.{grant, grantee_of, lacks_link, no_other, on_fack, on_get, on_getx, on_inv_ack, on_nakc, on_rpl, on_shwb, on_wb, wants_victim}
 use Rattle.op_model.specs.Tables.Remote.{meets, on_fwd_get, on_fwd_getx, on_inv, on_message, on_nak, on_put, on_putx, row_of}
+use Rattle.op_model.proofs.Plain.{second_of_four}
 use Rattle.line_invariant.proofs.Basics.{if-either}
 use Rattle.rest_laws.proofs.Sends.{sends-cons, sends-listed, sends-none, sends_weight}
 
@@ -131,11 +132,8 @@ module _ (nodes : ℕ) where
         (if-either (Below 2) (is_pending header) _ _ (λ _. one src (Nak Pending) 2 (omega arith)) (λ _.
         (if-either (Below 2) (lacks_link room src header && room.link_pending) _ _ (λ _. one src (Nak NoLink) 2 (omega arith)) (λ _.
         (if-either (Below 2) (lacks_link room src header && room.full) _ _ (λ _. one src (Nak Budget) 2 (omega arith)) (λ _.
-        (if-either (Below 2) (lacks_link room src header) _ _ (λ _. one src (Nak NoLink) 2 (omega arith)) (λ has. absurd (never (is_pending header) (lacks_link room src header) room.link_pending room.full wants has))))))))))
+        (if-either (Below 2) (lacks_link room src header) _ _ (λ _. one src (Nak NoLink) 2 (omega arith)) (λ has. absurd (second_of_four (is_pending header) (lacks_link room src header) room.link_pending room.full wants has))))))))))
         (λ _. none 2 (omega arith))
-      where
-        never : (a b c d : Bool) → (not a && b && not c && not d) ≡ true → b ≡ false → ⊥
-        never a b c d e f = grind arith
     refused-below me home src alone GetX get wants = cc
     refused-below me home src alone (FwdGet r) get wants = cc
     refused-below me home src alone (FwdGetX r) get wants = cc

@@ -2,6 +2,7 @@
 -- No link is free, so the lists of the home's lines hold as many as it has. So some list holds a link, and its line isn't pending,
 -- since a pending line with a link would have been named in the refusal. A home keeps headers of its own lines alone.
 use Rattle.std.proofs.Common.{◌≡◌, ◌≢◌, ℕ, ◌<◌, ◌≤◌, Bool, true, false, cond, nat_lt, ◌==◌, ◌&&◌, not, List, [], ◌∷◌, refl, arith, ap, sym, ◌∙◌, subst, Option, Some, None, unwrap_or}
+use Rattle.std.proofs.lemmas.Bool.{ltb-false}
 use Rattle.std.proofs.lemmas.Bool.Decides.{nat_tests}
 use Rattle.std.specs.List.{list_any}
 use Rattle.std.specs.Ordering.{nat_cmp, eq_by_cmp}
@@ -61,7 +62,7 @@ module _ (charge : Charge) (sizes : Sizes) (share : Share) (home : ℕ) (own : K
   -- a line of this home that may be called in
   fit-line : is_linked charge ≡ true → 0 < sizes.links → (room_of charge sizes share).link_free ≡ false → (room_of charge sizes share).link_pending ≡ false → (g : ℕ) × (fits_victim charge sizes home share g ≡ true)
   fit-line linked some full calm =
-      let all : sizes.links ≤ held_links share = least (held_links share) sizes.links full in
+      let all : sizes.links ≤ held_links share = ltb-false (held_links share) sizes.links full in
       let held : 0 < over links_in (fin.entries share.headers) = omega arith in
       let f : Found (λ h. nat_lt 0 (links_in h)) (fin.entries share.headers) = found (λ h. nat_lt 0 (links_in h)) (fin.entries share.headers) (fin.entries_sorted share.headers) (some-entry links_in (fin.entries share.headers) held) in
       let quiet : (is_pending f.1 && nat_lt 1 (count f.1.list)) ≡ false = none-found (λ h. is_pending h && nat_lt 1 (count h.list)) (fin.entries share.headers) f.0 f.1 calm f.2 in
@@ -70,9 +71,6 @@ module _ (charge : Charge) (sizes : Sizes) (share : Share) (home : ℕ) (own : K
       let has : header_of sizes share f.0 ≡ f.1 = header-found sizes share f.0 f.1 at in
       (f.0, subst (λ h. ((home_of sizes f.0 == home) && holds_link (room_of charge sizes share) h && not (is_pending h)) ≡ true) (sym has) (fits f.1 (home_of sizes f.0 == home) (let e = here in grind (arith, nat_tests)) f.3 quiet))
     where
-      least : (held links : ℕ) → nat_lt held links ≡ false → links ≤ held
-      least held links e = grind (arith, nat_tests)
-
       fits : (h : Header) (c : Bool) → c ≡ true → nat_lt 0 (links_in h) ≡ true → (is_pending h && nat_lt 1 (count h.list)) ≡ false → (c && holds_link (room_of charge sizes share) h && not (is_pending h)) ≡ true
       fits h c e links quiet = subst (λ l. (c && (l && not (count h.list == 0) && not (count h.list == 1)) && not (is_pending h)) ≡ true) (sym linked) (go c (count h.list) (is_pending h) e links quiet)
         where

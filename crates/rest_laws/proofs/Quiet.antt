@@ -3,6 +3,7 @@
 -- with a wait is possible: a line that is called in has a listed node with its Inv or InvAck, and a line that was asked for or handed on
 -- has an owner or a requester with a message. In the other phases an operation that waits has a message.
 use Rattle.std.proofs.Common.{◌≡◌, ◌≢◌, ℕ, ◌<◌, Bool, true, false, cond, ◌==◌, not, List, [], ◌∷◌, ◌++◌, refl, arith, ap, sym, ◌∙◌, subst, Option, Some, None}
+use Rattle.std.proofs.lemmas.Bool.{ne_eqb}
 use Rattle.std.proofs.lemmas.Bool.Decides.{nat_tests}
 use Rattle.op_model.specs.declared.events.Class.{Class}
 use Rattle.op_model.specs.declared.events.Class.TheVariants.{Reply, Request}
@@ -13,9 +14,9 @@ use Rattle.op_model.specs.Lines.{Copy, Header, is_pending}
 use Rattle.op_model.specs.Messages.{Content, Put, PutX}
 use Rattle.op_model.specs.Nodes.{Nodes, count, count-none, in_order, in_order-once, listed, listed-none, none, same_nodes, times}
 use Rattle.op_model.specs.Operations.{Words}
+use Rattle.op_model.proofs.Plain.{eqb-self}
 use Rattle.line_invariant.specs.Good.{IsUsual, IsWaiting, Answered, Asked, Asking, AskingX, Bare, Called, Carrier, Clean, Duty, Forwarded, Granted, Handed, HandedOn, Holds, HomeOwns, IsCarried, IsGood, IsGoodHeader, IsGrantee, IsHomeCarrier, IsOnDuty, NoDuty, Owned, Phase, Recalled, Refused, Resting, Returned, SharedOut, ToGive, Usual, answer_part, asked_role, asking_part, expected, leaving_part, reply_part, role_in, told_part}
 use Rattle.line_invariant.specs.Line.{Line}
-use Rattle.line_invariant.proofs.Basics.{eq-apart, eq-self}
 
 -- a reply that is under way shows in some lane
 pub app-none : (xs ys : List Content) → xs ++ ys ≡ [] → (xs ≡ []) × (ys ≡ [])
@@ -49,7 +50,7 @@ want-none (Some want) copy Asking is asks answers usual = cc
 want-none (Some want) copy AskingX is asks answers usual = cc
 want-none (Some want) copy Granted is asks answers usual = absurd usual
 want-none (Some want) copy (Forwarded write) is asks answers usual = absurd usual
-want-none (Some want) copy (Answered src content) is asks answers usual = absurd (let a = answers src in let b : answer_part src (Answered src content) ≡ content ∷ [] = rw (eq-self src) refl in let n : [] ≡ content ∷ [] = sym a ∙ b in cc)
+want-none (Some want) copy (Answered src content) is asks answers usual = absurd (let a = answers src in let b : answer_part src (Answered src content) ≡ content ∷ [] = rw (eqb-self src) refl in let n : [] ≡ content ∷ [] = sym a ∙ b in cc)
 
 usual-idle : (home : ℕ) (words : Words) (phase : Phase) (p : ℕ) (header : Header) (copy : Copy) (carries : Carrier) → IsGoodHeader home phase words header copy → is_pending header ≡ false → IsWaiting (role_in home words phase p) carries → IsUsual carries
 usual-idle home words Clean p header copy carries good idle is = is
@@ -82,7 +83,7 @@ module _ (home : ℕ) (words : Words) (header : Header) (copy : Copy) (duty : �
   Duties phase = (n : ℕ) → n ≢ home → IsOnDuty (role_in home words phase n) (listed header.list n) (duty n)
 
   unanswered : (src : ℕ) (content : Content) → carries ≡ Answered src content → ⊥
-  unanswered src content is = let b : answer_part src carries ≡ content ∷ [] = rw is (rw (eq-self src) refl) in let n : [] ≡ content ∷ [] = sym (answers src) ∙ b in cc
+  unanswered src content is = let b : answer_part src carries ≡ content ∷ [] = rw is (rw (eqb-self src) refl) in let n : [] ≡ content ∷ [] = sym (answers src) ∙ b in cc
 
   no-recall : (g : ℕ) → listed header.list g ≡ true → IsOnDuty Recalled (listed header.list g) (duty g) → ⊥
   no-recall g has on = let d = duties g in let t : IsOnDuty Recalled true NoDuty = rw (has, d) at on in let n : true ≡ false = t in cc
@@ -98,23 +99,23 @@ module _ (home : ℕ) (words : Words) (header : Header) (copy : Copy) (duty : �
       called : (g : Grantee) (n : ℕ) → listed header.list n ≡ true → IsGrantee home g header.list → IsOnDuty (role_in home words (Called g) n) (listed header.list n) (duty n) → ⊥
       called Nobody n has is on = no-recall n has on
       called Me n has is on = no-recall n has on
-      called (Node k) n has is on = no-recall n has (rw (eq-apart n k other) at on)
+      called (Node k) n has is on = no-recall n has (rw (ne_eqb n k other) at on)
         where
           other : n ≢ k
           other same = let t : true ≡ false = sym has ∙ ap (listed header.list) same ∙ is.1 in cc
-  idle (Asked w r o f h) good at on = absurd (asked f h (rw (eq-self o) at (on o good.5)))
+  idle (Asked w r o f h) good at on = absurd (asked f h (rw (eqb-self o) at (on o good.5)))
     where
       asked : (f h : Bool) → IsOnDuty (asked_role h (cond f Refused (ToGive w r))) (listed header.list o) (duty o) → ⊥
       asked true true is = let d = duties o in cc
       asked true false is = let d = duties o in cc
       asked false true is = let d = duties o in cc
       asked false false is = let d = duties o in cc
-  idle (SharedOut r o) good at on = absurd (shared (r == home) at (rw (eq-self o) at (on o good.4)))
+  idle (SharedOut r o) good at on = absurd (shared (r == home) at (rw (eqb-self o) at (on o good.4)))
     where
       shared : (c : Bool) → carries ≡ cond c (Answered o (Put words)) Resting → duty o ≡ cond (not c) (Returned words) NoDuty → ⊥
       shared true is on = unanswered o (Put words) is
       shared false is on = let d = duties o in cc
-  idle (HandedOn r o h) good at on = absurd (handed (r == home) at (rw (eq-self o) at (on o good.5)))
+  idle (HandedOn r o h) good at on = absurd (handed (r == home) at (rw (eqb-self o) at (on o good.5)))
     where
       handed : (c : Bool) → carries ≡ cond c (Answered o (PutX words)) Resting → duty o ≡ cond c NoDuty Handed → ⊥
       handed true is on = unanswered o (PutX words) is
@@ -132,7 +133,7 @@ module _ (home : ℕ) (line : Line) (good : IsGood home line) (empty : (a b : �
     where
       go : (c : Bool) → (n == home) ≡ c → (good.status n).duty ≡ NoDuty
       go true e = let same : home ≡ n = grind (arith, nat_tests) in subst (λ k. (good.status k).duty ≡ NoDuty) same good.at_home.off_duty
-      go false e = silent-duty (good.status n).duty (rw (e, eq-self home) at (silent home n Request)) (app-none (answer_part n (good.status home).carrier) _ (rw (eq-self home) at (silent n home Reply))).1
+      go false e = silent-duty (good.status n).duty (rw (e, eqb-self home) at (silent home n Request)) (app-none (answer_part n (good.status home).carrier) _ (rw (eqb-self home) at (silent n home Reply))).1
 
   -- no line is pending
   pub quiet-header : is_pending line.header ≡ false
@@ -143,7 +144,7 @@ module _ (home : ℕ) (line : Line) (good : IsGood home line) (empty : (a b : �
   quiet-want n = go (n == home) refl
     where
       asks : asking_part (good.status n).carrier ≡ []
-      asks = (app-none (leaving_part (good.status n).leaving) _ (rw (eq-self home) at (silent n home Request))).1
+      asks = (app-none (leaving_part (good.status n).leaving) _ (rw (eqb-self home) at (silent n home Request))).1
 
       go : (c : Bool) → (n == home) ≡ c → line.want n ≡ None
       go true e =

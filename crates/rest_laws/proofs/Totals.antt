@@ -9,11 +9,6 @@ unfolding total
 total-le f g zero h = omega arith
 total-le f g (suc n) h = let ih = total-le f g n h in let a = h n in omega arith
 
-pub total-add : (f g : ℕ → ℕ) (n : ℕ) → total (λ i. f i + g i) n ≡ total f n + total g n
-unfolding total
-total-add f g zero = refl
-total-add f g (suc n) = let ih = total-add f g n in omega arith
-
 pub total-same : (f g : ℕ → ℕ) (n : ℕ) → ((i : ℕ) → f i ≡ g i) → total f n ≡ total g n
 unfolding total
 total-same f g zero h = refl
@@ -28,11 +23,6 @@ total-at f (suc n) k h = go (k == n) refl (total-at f n k)
     go : (c : Bool) → (k == n) ≡ c → (k < n → f k ≤ total f n) → f k ≤ total f n + f n
     go true e earlier = let same : k ≡ n = grind (arith, nat_tests) in let s : f k ≡ f n = ap f same in omega arith
     go false e earlier = let below : k < n = grind (arith, nat_tests) in let ih = earlier below in omega arith
-
-pub total-zero : (n : ℕ) → total (λ i. 0) n ≡ 0
-unfolding total
-total-zero zero = refl
-total-zero (suc n) = let ih = total-zero n in omega arith
 
 pub total-const : (c n : ℕ) → total (λ i. c) n ≡ c * n
 unfolding total

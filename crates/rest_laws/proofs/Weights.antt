@@ -10,14 +10,14 @@ use Rattle.op_model.specs.declared.messages.Msg.{Msg}
 use Rattle.op_model.specs.Messages.{Content, msg_content, same_class}
 use Rattle.op_model.specs.Run.Weight.{total}
 use Rattle.op_model.specs.Shares.{Lanes}
+use Rattle.op_model.proofs.Plain.{eqb-self, total-zero, total-add}
+use Rattle.op_model.proofs.Shares.{same_class-is}
 use Rattle.line_invariant.specs.Line.{addressed}
-use Rattle.line_invariant.proofs.Basics.{eq-self}
-use Rattle.one_history.proofs.Project.{one_class}
 use Rattle.lane_bounds.proofs.Acts.{sent_of, taken_of}
 use Rattle.lane_bounds.proofs.Lanes.{weighed-sent}
 use Rattle.lane_bounds.proofs.Sums.{weighed, weighed-cons}
 use Rattle.rest_laws.proofs.Sends.{sends_weight, sent_to}
-use Rattle.rest_laws.proofs.Totals.{total-add, total-at, total-le, total-one, total-same, total-zero}
+use Rattle.rest_laws.proofs.Totals.{total-at, total-le, total-one, total-same}
 
 -- the sum over all pairs
 abbrev pairs : (ℕ → ℕ → ℕ) → ℕ → ℕ
@@ -74,7 +74,7 @@ module _ (w : Content → ℕ) (nodes : ℕ) (lane : Lanes) where
         go true true true x y z =
             let is_src : a ≡ src = grind (arith, nat_tests) in
             let is_dst : b ≡ dst = grind (arith, nat_tests) in
-            let is_class : k ≡ class = one_class k class z in
+            let is_class : k ≡ class = same_class-is k class z in
             let same : lane a b k ≡ m ∷ rest = cc in
             let whole : weighed w (lane a b k) ≡ weighed w (m ∷ rest) = ap (weighed w) same in
             let c = weighed-cons w m rest in
@@ -93,7 +93,7 @@ module _ (w : Content → ℕ) (nodes : ℕ) (lane : Lanes) where
         let a = pairs-le (λ a b. cell (taken_of src dst class rest lane) a b + at-place a b) (cell lane) nodes (λ a b. each a b class (lane-taken a b Request) (lane-taken a b Reply)) in
         let b = pairs-add (cell (taken_of src dst class rest lane)) at-place nodes in
         let c = pairs-at at-place nodes src dst src_in dst_in in
-        let d : w content ≤ pairs at-place nodes = rw (eq-self src, eq-self dst) at c in
+        let d : w content ≤ pairs at-place nodes = rw (eqb-self src, eqb-self dst) at c in
         omega arith
       where
         each : (a b : ℕ) (k : Class) → weighed w (taken_of src dst class rest lane a b Request) + cond ((a == src) && (b == dst) && same_class Request k) (w content) 0 ≡ weighed w (lane a b Request) →

@@ -1,17 +1,14 @@
 -- Finite maps of numbers with few entries: what they answer, their entries in order, and what putting and removing leaves as it is.
-use Rattle.std.proofs.Common.{◌≡◌, ℕ, Bool, true, false, List, [], ◌∷◌, length, cond, Some, None, Option, refl, sym, ap, ◌==◌, ◌∙◌, arith}
+use Rattle.std.proofs.Common.{◌≡◌, ℕ, Bool, true, false, [], cond, Some, None, Option, refl, sym, ap, ◌==◌, ◌∙◌, arith}
 use Rattle.std.specs.Ordering.{nat_cmp, eq_by_cmp}
 use Rattle.std.specs.Cmp.{nat_cmp_total, unsigned_tied}
 use Rattle.std.proofs.lemmas.Bool.Decides.{nat_tests}
+use Rattle.std.proofs.lemmas.List.{nil_from_length}
 use Rattle.std.specs.FinMap as fin
 use Rattle.std.specs.FinMap.{put}
 
-no_entry : {A : Type 0} (es : List A) → length es ≡ 0 → es ≡ []
-no_entry [] e = refl
-no_entry (x ∷ es) e = absurd (omega arith)
-
 pub entries-empty : {X : Type 0} → fin.entries {X = X} {R = nat_cmp} fin.empty ≡ []
-entries-empty {X} = no_entry _ (sym (fin.len-entries fin.empty) ∙ fin.len-empty nat_cmp X)
+entries-empty {X} = nil_from_length _ (sym (fin.len-entries fin.empty) ∙ fin.len-empty nat_cmp X)
 
 pub entries-put : {X : Type 0} (m : fin.FinMap nat_cmp X) (k : ℕ) (v : X) → fin.entries (fin.insert m k v) ≡ put nat_cmp k v (fin.entries m)
 entries-put m k v = fin.entries-insert nat_cmp_total m k v

@@ -5,6 +5,7 @@ use Rattle.op_model.specs.Nodes.{Nodes, none, enlist, only}
 use Rattle.op_model.specs.Operations.{Words}
 use Rattle.op_model.specs.Messages.{Content}
 use Rattle.op_model.specs.Lines.{Copy, Absent, Header, LineShare, Room, Outcome, is_empty}
+pub use Rattle.op_model.specs.Lines.{begun as wants}
 use Rattle.op_model.specs.Tables.Remote.{on_message}
 use Rattle.row_examples.specs.Types.{Kind, Load, Store, Op, Want, Grantee, Wait, Idle, Invalidate}
 
@@ -24,10 +25,7 @@ load_by node = operation node 0 Load 0 0
 abbrev pub store_by : ℕ → ℕ → Op
 store_by node value = operation node 0 Store 0 value
 
--- what a node wants that has begun an operation; and a load whose line was invalidated meanwhile
-abbrev pub wants : Op → Option Want
-wants op = Some (record { op = op; marked = false })
-
+-- what a node wants that has begun a load whose line was invalidated meanwhile
 abbrev pub wants_marked : Op → Option Want
 wants_marked op = Some (record { op = op; marked = true })
 

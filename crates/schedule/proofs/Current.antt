@@ -1,9 +1,8 @@
 -- The first operation of an order that isn't completed.
-use Rattle.std.proofs.Common.{◌≡◌, ℕ, ◌+◌, ◌<◌, ◌≤◌, true, false, not, nat_lt, List, length, get_or, arith, ap, sym, ◌∙◌, subst, ◌⊎◌, inl, inr, refl, IfSome, Option, Some, None}
+use Rattle.std.proofs.Common.{◌≡◌, ℕ, ◌+◌, ◌<◌, ◌≤◌, not, nat_lt, List, length, get_or, arith, ap, sym, ◌∙◌, subst, ◌⊎◌, inl, inr, refl, IfSome, Option, Some, None}
 use Rattle.std.specs.Prelude.{slice_get}
 use Rattle.std.proofs.lemmas.Option.{same_Some, slice_get_past, slice_get_within, slice_get-get_or}
-use Rattle.std.proofs.lemmas.Bool.{cases_lt}
-use Rattle.std.proofs.lemmas.Bool.Decides.{nat_tests}
+use Rattle.std.proofs.lemmas.Bool.{cases_lt, not_from_true, not_from_false, lt-ltb, le-ltb}
 use Rattle.line_map.specs.Sizes.{Sizes}
 use Rattle.op_model.specs.declared.events.Event.{Event}
 use Rattle.op_model.specs.declared.operations.Op.{Op}
@@ -14,22 +13,16 @@ use Rattle.schedule_laws.proofs.Lists.{find-first, find-none_of}
 use Rattle.schedule.specs.Chosen.{AreCompletedTo, AreOpsIn, IsOpIn}
 use Rattle.schedule.proofs.Places.{places-rise}
 
-done-test : (a b : ℕ) → a < b → not (nat_lt a b) ≡ false
-done-test a b less = grind (arith, nat_tests)
-
-left-test : (a b : ℕ) → b ≤ a → not (nat_lt a b) ≡ true
-left-test a b less = grind (arith, nat_tests)
-
 module _ (order : List Op) (state : State) where
   pub current-at : (at : ℕ) → AreCompletedTo order at state → (op : Op) → slice_get order at ≡ Some op → (state.share op.node).place ≤ op.index → current order state ≡ Some op
   current-at at done op is left =
       find-first (λ (o : Op). not (nat_lt o.index (state.share o.node).place)) order at op
-      (λ k y below there. done-test y.index (state.share y.node).place (done k y below there)) is (left-test op.index (state.share op.node).place left)
+      (λ k y below there. not_from_true _ (lt-ltb y.index (state.share y.node).place (done k y below there))) is (not_from_false _ (le-ltb op.index (state.share op.node).place left))
 
   pub current-end : (at : ℕ) → length order ≤ at → AreCompletedTo order at state → current order state ≡ None
   current-end at all done =
       find-none_of (λ (o : Op). not (nat_lt o.index (state.share o.node).place)) order
-      (λ k y there. done-test y.index (state.share y.node).place (done k y (let within = slice_get_within order k y there in omega (arith, within)) there))
+      (λ k y there. not_from_true _ (lt-ltb y.index (state.share y.node).place (done k y (let within = slice_get_within order k y there in omega (arith, within)) there)))
 
   pub completed-more : (at : ℕ) → AreCompletedTo order at state → (op : Op) → slice_get order at ≡ Some op → op.index < (state.share op.node).place → AreCompletedTo order (at + 1) state
   completed-more at done op is here k y below there = go (cases_lt k at)

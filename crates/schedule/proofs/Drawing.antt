@@ -1,6 +1,6 @@
 -- Events that are drawn one after another: one more, and the random part under way.
-use Rattle.std.proofs.Common.{◌≡◌, ℕ, zero, suc, ◌+◌, ◌≤◌, Bool, true, false, cond, List, [], ◌∷◌, ◌++◌, length, length-append, append_assoc, refl, arith, ap, sym, ◌∙◌, subst, ◌⊎◌, inl, inr, Option, Some, None, Result, Ok, Err}
-use Rattle.std.specs.Prelude.{filter, is_ok, slice_get}
+use Rattle.std.proofs.Common.{◌≡◌, ℕ, suc, ◌+◌, ◌≤◌, true, false, List, [], ◌∷◌, ◌++◌, length, length-append, append_assoc, refl, arith, ap, sym, ◌∙◌, subst, ◌⊎◌, inl, inr, Result, Ok, Err}
+use Rattle.std.specs.Prelude.{is_ok, slice_get}
 use Rattle.std.proofs.lemmas.List.{append-nil}
 use Rattle.op_model.specs.declared.events.Cause.{Cause}
 use Rattle.op_model.specs.declared.events.Event.{Event}
@@ -8,6 +8,7 @@ use Rattle.op_model.specs.Events.Step.{Done, effect}
 use Rattle.op_model.specs.Run.Runs.{Past, past_after}
 use Rattle.op_model.specs.Run.Seeded.{IsDrawn, candidates, is_enabled}
 use Rattle.op_model.specs.Run.Machines.{MachineRun, IsRunning, effect_on, with_event, IsApplied, IsEnabled, IsEventOf}
+use Rattle.op_model.proofs.Plain.{filter-passes}
 use Rattle.rand_pcg.specs.Lcg.{Lcg}
 use Rattle.rand_pcg.specs.Pcg.{pcg32}
 use Rattle.schedule.specs.Candidates.{candidates_on}
@@ -63,15 +64,6 @@ module _ (answers : ℕ → ℕ → ℕ → Type 0) (seed : ℕ) (first : Machin
   }
 
   -- what is drawn is enabled, and of the machine
-  filter-passes : (p : Event → Bool) (events : List Event) (i : ℕ) (event : Event) → slice_get (filter p events) i ≡ Some event → p event ≡ true
-  filter-passes p [] i event is = absurd (let n : ◌≡◌ {A = Option Event} None (Some event) = is in cc)
-  filter-passes p (x ∷ events) i event is = go (p x) refl i is (λ k at. filter-passes p events k event at)
-    where
-      go : (b : Bool) → p x ≡ b → (i : ℕ) → slice_get (cond b (x ∷ filter p events) (filter p events)) i ≡ Some event → ((k : ℕ) → slice_get (filter p events) k ≡ Some event → p event ≡ true) → p event ≡ true
-      go true here zero at later = let same : x ≡ event = cc in subst (λ e. p e ≡ true) same here
-      go true here (suc k) at later = later k at
-      go false here k at later = later k at
-
   done-of : (now : MachineRun) (event : Event) (r : Result Done Cause) → effect_on now event ≡ r → is_ok r ≡ true → IsEnabled now event
   done-of now event (Ok done) is ok = (done, is)
   done-of now event (Err cause) is ok = absurd (let d : false ≡ true = ok in cc)

@@ -4,7 +4,7 @@ use Rattle.std.specs.Prelude.{filter, find, is_some, map, nat_le, nat_lt, option
 use Rattle.std.specs.FinMap as fin
 use Rattle.std.specs.List.{flat_map, range_with_len}
 use Rattle.std.proofs.Math.Nat.{lt-div-mul-add}
-use Rattle.std.proofs.lemmas.Bool.{leb-true, and_parts}
+use Rattle.std.proofs.lemmas.Bool.{leb-true, and_parts, cases_lt}
 use Rattle.line_map.specs.Sizes.{Sizes, all_lines, home_of, in_limits, line_of, set_of}
 use Rattle.line_map.specs.declared.machine.Field.TheVariants.{Words}
 use Rattle.op_model.specs.declared.events.Event.{Event}
@@ -17,9 +17,9 @@ use Rattle.op_model.specs.Run.Schedules.{Lane, all_nodes, lanes_in_order, other_
 use Rattle.op_model.specs.Run.Seeded.{evictions_of, free_links, is_enabled, lines_of, low_water, processor_candidates, reclaim_of, reclaims_of, room_events, takes_of}
 use Rattle.op_model.specs.Shares.{copy_of}
 use Rattle.op_model.specs.Run.Machines.{MachineRun, IsRunning, IsEventOf}
+use Rattle.op_model.proofs.Plain.{find-passes}
 use Rattle.node_range.specs.Range.{IsRanged}
 use Rattle.node_range.proofs.Events.{ranged-run}
-use Rattle.node_range.proofs.Programs.{below}
 use Rattle.node_range.proofs.Traces.{turn-in}
 use Rattle.schedule.specs.Candidates.{candidates_on}
 use Rattle.schedule.proofs.Finishes.{turn, turn-ran}
@@ -66,14 +66,6 @@ in-takes sizes f p a (suc n) each = go (p a) (in-takes sizes f p (a + 1) n (λ k
     go true rest = (each a (omega arith), rest)
     go false rest = rest
 
-find-passes : {A : Type 0} (p : A → Bool) (xs : List A) (x : A) → find p xs ≡ Some x → p x ≡ true
-find-passes p [] x is = absurd (let n : ◌≡◌ {A = Option _} None (Some x) = is in cc)
-find-passes p (y ∷ xs) x is = go (p y) refl is (find-passes p xs x)
-  where
-    go : (b : Bool) → p y ≡ b → cond b (Some y) (find p xs) ≡ Some x → (find p xs ≡ Some x → p x ≡ true) → p x ≡ true
-    go true here found later = let same : y ≡ x = cc in subst (λ z. p z ≡ true) same here
-    go false here found later = later found
-
 module _ (m : MachineRun) (running : IsRunning m) where
   words-some : 0 < m.sizes.words
   words-some = go m.sizes.words running.sizes.words
@@ -90,7 +82,7 @@ module _ (m : MachineRun) (running : IsRunning m) where
 
   -- a line that a node has a copy of is one of the machine
   copied-in : (node line : ℕ) → is_empty (copy_of (m.past.state.share node) line) ≡ false → line < all_lines m.sizes
-  copied-in node line held = go (below (home_of m.sizes line) m.sizes.nodes)
+  copied-in node line held = go (cases_lt (home_of m.sizes line) m.sizes.nodes)
     where
       go : (home_of m.sizes line < m.sizes.nodes) ⊎ (m.sizes.nodes ≤ home_of m.sizes line) → line < all_lines m.sizes
       go (inl less) =

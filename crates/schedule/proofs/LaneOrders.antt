@@ -1,7 +1,8 @@
 -- The lanes stand in their order, so what comes behind one in the list comes behind it in lane order.
-use Rattle.std.proofs.Common.{◌≡◌, ℕ, zero, suc, ◌+◌, ◌<◌, ◌≤◌, Bool, true, false, cond, ◌&&◌, ◌==◌, nat_lt, List, [], ◌∷◌, ◌++◌, length, refl, arith, ap, sym, ◌∙◌, Some}
+use Rattle.std.proofs.Common.{◌≡◌, ℕ, zero, suc, ◌+◌, ◌<◌, ◌≤◌, Bool, true, false, cond, ◌&&◌, ◌==◌, List, [], ◌∷◌, ◌++◌, length, refl, arith, ap, sym, ◌∙◌, Some}
 use Rattle.std.specs.Prelude.{find, count_by}
 use Rattle.std.specs.List.{flat_map, range_with_len}
+use Rattle.std.proofs.lemmas.Bool.{lt-ltb, le-ltb, eq-eqb}
 use Rattle.std.proofs.lemmas.Bool.Decides.{nat_tests}
 use Rattle.std.proofs.lemmas.List.Sums.{sum_by-cons}
 use Rattle.line_map.specs.Sizes.{Sizes}
@@ -38,36 +39,27 @@ sorted-append P Q [] ys one two apart first second = second
 sorted-append P Q (x ∷ xs) ys one two apart first second =
     (all-append (IsBefore x) xs ys first.0 (all-weaker Q (IsBefore x) ys (λ y. apart x y one.0) two), sorted-append P Q xs ys one.1 two apart first.1 second)
 
-less-test : (a b : ℕ) → a < b → nat_lt a b ≡ true
-less-test a b less = grind (arith, nat_tests)
-
-over-test : (a b : ℕ) → b ≤ a → nat_lt a b ≡ false
-over-test a b over = grind (arith, nat_tests)
-
-same-test : (a b : ℕ) → a ≡ b → (a == b) ≡ true
-same-test a b same = grind (arith, nat_tests)
-
 other-test : (a b : ℕ) → a < b → (b == a) ≡ false
 other-test a b less = grind (arith, nat_tests)
 
 src-before : (a b : Lane) → a.src < b.src → IsBefore a b
-src-before a b less = (rw (less-test a.src b.src less) refl, rw (over-test b.src a.src (omega arith), other-test a.src b.src less) refl)
+src-before a b less = (rw (lt-ltb a.src b.src less) refl, rw (le-ltb b.src a.src (omega arith), other-test a.src b.src less) refl)
 
 dst-before : (a b : Lane) → a.src ≡ b.src → a.dst < b.dst → IsBefore a b
 dst-before a b same less = (
-  rw (over-test a.src b.src (omega arith), same-test a.src b.src same, less-test a.dst b.dst less) refl,
-  rw (over-test b.src a.src (omega arith), same-test b.src a.src (sym same), over-test b.dst a.dst (omega arith), other-test a.dst b.dst less) refl,
+  rw (le-ltb a.src b.src (omega arith), eq-eqb a.src b.src same, lt-ltb a.dst b.dst less) refl,
+  rw (le-ltb b.src a.src (omega arith), eq-eqb b.src a.src (sym same), le-ltb b.dst a.dst (omega arith), other-test a.dst b.dst less) refl,
 )
 
 class-before : (src dst : ℕ) → IsBefore (record { src = src; dst = dst; class = Request }) (record { src = src; dst = dst; class = Reply })
-class-before src dst = (rw (over-test src src (omega arith), same-test src src refl, over-test dst dst (omega arith), same-test dst dst refl) refl, rw (over-test src src (omega arith), same-test src src refl, over-test dst dst (omega arith), same-test dst dst refl) refl)
+class-before src dst = (rw (le-ltb src src (omega arith), eq-eqb src src refl, le-ltb dst dst (omega arith), eq-eqb dst dst refl) refl, rw (le-ltb src src (omega arith), eq-eqb src src refl, le-ltb dst dst (omega arith), eq-eqb dst dst refl) refl)
 
 same-class : (k : Class) → class_before k k ≡ false
 same-class Request = refl
 same-class Reply = refl
 
 self-before : (a : Lane) → lane_before a a ≡ false
-self-before a = rw (over-test a.src a.src (omega arith), same-test a.src a.src refl, over-test a.dst a.dst (omega arith), same-test a.dst a.dst refl) (same-class a.class)
+self-before a = rw (le-ltb a.src a.src (omega arith), eq-eqb a.src a.src refl, le-ltb a.dst a.dst (omega arith), eq-eqb a.dst a.dst refl) (same-class a.class)
 
 -- the lanes of one sender to some takers
 abbrev from_one : ℕ → ℕ → ℕ → List Lane

@@ -2,6 +2,7 @@
 use Rattle.std.proofs.Common.{◌≡◌, ℕ, ◌+◌, ◌*◌, ◌-◌, ◌<◌, ◌≤◌, Bool, true, false, cond, not, ◌&&◌, ◌==◌, List, [], ◌∷◌, refl, arith, ap, sym, ◌∙◌, IfSome, Option, Some, None, Result, Ok, Err}
 use Rattle.std.specs.Prelude.{find, is_ok, nat_lt}
 use Rattle.std.specs.List.{range_with_len}
+use Rattle.std.proofs.Math.Bool.{and-true, and-false}
 use Rattle.std.proofs.lemmas.Bool.Decides.{nat_tests}
 use Rattle.std.proofs.lemmas.Nat.{div-mul-add}
 use Rattle.line_map.specs.Sizes.{Sizes, home_of}
@@ -75,14 +76,6 @@ module _ (m : MachineRun) (home : ℕ) where
   keeps-same : full ≡ false → of_home enabled ≡ of_home fits
   keeps-same room = find-range-same enabled fits (home * m.sizes.lines) m.sizes.lines (λ line low high.
       enabled-own line (own-line line low high) ∙ (ap (λ b. fits line && not b) room ∙ and-true (fits line)))
-    where
-      and-true : (b : Bool) → (b && true) ≡ b
-      and-true true = refl
-      and-true false = refl
-
-  and-false : (b : Bool) → (b && false) ≡ false
-  and-false true = refl
-  and-false false = refl
 
   none-enabled : full ≡ true → (line : ℕ) → home * m.sizes.lines ≤ line → line < home * m.sizes.lines + m.sizes.lines → enabled line ≡ false
   none-enabled room line low high = enabled-own line (own-line line low high) ∙ (ap (λ b. fits line && not b) room ∙ and-false (fits line))

@@ -1,9 +1,8 @@
 -- A schedule under way: the events that were made of it, and those that are left. It goes on event by event, and stops at its end.
-use Rattle.std.proofs.Common.{◌≡◌, ℕ, suc, ◌+◌, ◌-◌, ◌<◌, ◌≤◌, List, [], ◌∷◌, ◌++◌, length, length-append, append_assoc, refl, arith, ap, sym, ◌∙◌, subst, Option, Some, None, Result, Ok}
+use Rattle.std.proofs.Common.{◌≡◌, ℕ, suc, ◌+◌, ◌-◌, ◌<◌, ◌≤◌, List, [], ◌∷◌, ◌++◌, length, length-append, append_assoc, refl, arith, ap, sym, ◌∙◌, subst, Option, Some, None, Ok}
 use Rattle.std.proofs.lemmas.List.{append-nil}
 use Rattle.std.proofs.lemmas.Option.{same_Some}
 use Rattle.line_map.specs.Sizes.{Sizes}
-use Rattle.op_model.specs.declared.events.Cause.{Cause}
 use Rattle.op_model.specs.declared.events.Event.{Event}
 use Rattle.op_model.specs.Shares.{Charge, State}
 use Rattle.op_model.specs.Events.Step.{Programs, Done, effect}
@@ -46,12 +45,6 @@ at-start m running unused = same_Some (start m.sizes) m.past (ap (run_by m.charg
 abbrev pub still : ℕ → MachineRun → MachineRun → ℕ
 still most first now = (length first.events + most) - length now.events
 
-same-event : (a b : Event) → ◌≡◌ {A = Option Event} (Some a) (Some b) → a ≡ b
-same-event a b e = cc
-
-same-done : (a b : Done) → ◌≡◌ {A = Result Done Cause} (Ok a) (Ok b) → a ≡ b
-same-done a b e = cc
-
 -- the next event of a course that stops
 pub record IsHead (next : Schedule) (m : MachineRun) (past : Past) (left : List Event) (end : Past) (event : Event) : Type 0 where
   pub rest : List Event
@@ -67,7 +60,7 @@ module _ (next : Schedule) (m : MachineRun) where
       let n : ◌≡◌ {A = Option Event} None (Some event) = sym stops ∙ ap (λ (p : Past). next m.charge m.sizes m.programs p.state) (sym course) ∙ is in
       cc)
   head-of past (other ∷ rest) end event course stops is =
-      let same : other ≡ event = same-event other event (sym course.0 ∙ is) in
+      let same : other ≡ event = same_Some other event (sym course.0 ∙ is) in
       record {
         rest = rest;
         done = course.1;
@@ -101,7 +94,7 @@ module _ (next : Schedule) (Good : Past → Type 0) (most : ℕ) (first : Machin
   went-on : (now : MachineRun) (way : Under now) (event : Event) → next_on next now ≡ Some event → (done : Done) → effect_on now event ≡ Ok done → IsRunning (with_event now event done) → Under (with_event now event done)
   went-on now way event is done does running =
       let head = next-head now way event is in
-      let same : head.done ≡ done = same-done head.done done (sym head.does ∙ sym (ap (λ m. effect_on m event) way.is) ∙ does) in
+      let same : head.done ≡ done = cc (sym head.does ∙ sym (ap (λ m. effect_on m event) way.is) ∙ does) in
       let whole : length way.left ≡ suc (length head.rest) = ap length head.is in
       record {
         made = way.made ++ event ∷ [];

@@ -1,10 +1,10 @@
 -- The lines of a home that may be called in: each is one of the machine, and there are few.
-use Rattle.std.proofs.Common.{◌≡◌, ℕ, zero, suc, ◌+◌, ◌*◌, ◌<◌, ◌≤◌, Bool, true, false, cond, List, [], ◌∷◌, ◌++◌, length, take, append_assoc, arith, ap, sym, ◌∙◌, IfSome, Option, Some, None}
-use Rattle.std.specs.Prelude.{find, map, nat_le, slice_get}
+use Rattle.std.proofs.Common.{◌≡◌, ℕ, zero, suc, ◌+◌, ◌*◌, ◌<◌, ◌≤◌, Bool, true, false, cond, List, [], ◌∷◌, ◌++◌, length, append_assoc, arith, ap, sym, ◌∙◌, IfSome, Option, Some, None}
+use Rattle.std.specs.Prelude.{find, nat_le}
 use Rattle.std.specs.List.{range_with_len}
 use Rattle.std.proofs.Math.Nat.{mul-le-mul_right}
 use Rattle.std.proofs.lemmas.Bool.{leb-true, and_parts}
-use Rattle.std.proofs.lemmas.List.{map-append, take_all}
+use Rattle.std.proofs.lemmas.List.{append-nil}
 use Rattle.std.proofs.lemmas.List.Elements.{filter-append}
 use Rattle.std.proofs.lemmas.List.FromFn.{length-range_with_len}
 use Rattle.std.proofs.lemmas.List.Sums.{count_by-le-length, length-filter}
@@ -15,9 +15,9 @@ use Rattle.op_model.specs.declared.events.Event.TheVariants.{Take}
 use Rattle.op_model.specs.Events.Node.{fits_victim}
 use Rattle.op_model.specs.Shares.{Charge, State}
 use Rattle.op_model.specs.Run.Schedules.{least_victim}
+use Rattle.op_model.specs.Run.Seeded.{is_enabled}
 use Rattle.op_model.specs.Run.Machines.{MachineRun, IsRunning}
 use Rattle.machine_face.specs.Reads.{victims}
-use Rattle.schedule_laws.proofs.Lists.{at-end, take-next}
 use Rattle.schedule.specs.Candidates.{enabled_of, takes_with}
 
 find-range : (p : ℕ → Bool) (a n : ℕ) → IfSome (find p (range_with_len a n)) (λ x. x < a + n)
@@ -58,16 +58,13 @@ lines-few m running = leb-true _ _ (and_parts (nat_le 1 m.sizes.lines) (nat_le m
 pub nodes-few : (m : MachineRun) → IsRunning m → m.sizes.nodes ≤ 64
 nodes-few m running = leb-true _ _ (and_parts (nat_le 2 m.sizes.nodes) (nat_le m.sizes.nodes 64) running.sizes.nodes).1
 
--- one line more of those that may be called in
-pub takes-more : (m : MachineRun) (src dst : ℕ) (class : Class) (lines : List ℕ) (i line : ℕ) → slice_get lines i ≡ Some line → (first now later : List Event) → now ≡ first ++ enabled_of m (takes_with src dst class (take i lines)) →
-    later ≡ now ++ enabled_of m (Take src dst class (Some line) ∷ []) → later ≡ first ++ enabled_of m (takes_with src dst class (take (i + 1) lines))
-takes-more m src dst class lines i line is first now later told more =
-    let f : ℕ → Event = λ l. Take src dst class (Some l) in
-    let whole : enabled_of m (takes_with src dst class (take (i + 1) lines)) ≡ enabled_of m (takes_with src dst class (take i lines)) ++ enabled_of m (Take src dst class (Some line) ∷ []) =
-    ap (λ ls. enabled_of m (map f ls)) (take-next lines i line is) ∙ (ap (enabled_of m) (map-append f (take i lines) (line ∷ [])) ∙ filter-append _ (map f (take i lines)) (map f (line ∷ []))) in
-    more ∙ (ap (λ es. es ++ enabled_of m (Take src dst class (Some line) ∷ [])) told ∙ (append_assoc first (enabled_of m (takes_with src dst class (take i lines))) (enabled_of m (Take src dst class (Some line) ∷ [])) ∙ ap (λ es. first ++ es) (sym whole)))
+-- the Take of the next line is told, and those of the others are left
+pub takes-more : (m : MachineRun) (src dst : ℕ) (class : Class) (now later : List Event) (line : ℕ) (left rest : List ℕ) → left ≡ line ∷ rest → later ≡ now ++ enabled_of m (Take src dst class (Some line) ∷ []) →
+    later ++ enabled_of m (takes_with src dst class rest) ≡ now ++ enabled_of m (takes_with src dst class left)
+takes-more m src dst class now later line left rest is told =
+    let one : List Event = Take src dst class (Some line) ∷ [] in
+    ap (λ es. es ++ enabled_of m (takes_with src dst class rest)) told ∙ append_assoc now (enabled_of m one) (enabled_of m (takes_with src dst class rest))
+    ∙ ap (λ es. now ++ es) (sym (filter-append (is_enabled m.charge m.sizes m.programs m.past.state) one (takes_with src dst class rest)) ∙ ap (λ lines. enabled_of m (takes_with src dst class lines)) (sym is))
 
-pub takes-all : (m : MachineRun) (src dst : ℕ) (class : Class) (lines : List ℕ) (i : ℕ) → slice_get lines i ≡ None → i ≤ length lines → (first now : List Event) → now ≡ first ++ enabled_of m (takes_with src dst class (take i lines)) → now ≡ first ++ enabled_of m (takes_with src dst class lines)
-takes-all m src dst class lines i none within first now told =
-    let at = at-end lines i none within in
-    told ∙ ap (λ ls. first ++ enabled_of m (takes_with src dst class ls)) (take_all i lines (omega arith))
+pub takes-all : (m : MachineRun) (src dst : ℕ) (class : Class) (now : List Event) (left : List ℕ) → left ≡ [] → now ≡ now ++ enabled_of m (takes_with src dst class left)
+takes-all m src dst class now left none = sym (append-nil now) ∙ ap (λ lines. now ++ enabled_of m (takes_with src dst class lines)) (sym none)

@@ -1,6 +1,6 @@
 -- Whether another line stands in the cache set of a line: no conflict is found exactly where the search for one finds nothing, and that is
 -- where each other line of the set is absent.
-use Rattle.std.proofs.Common.{◌≡◌, ◌≢◌, ℕ, Bool, true, false, cond, not, ◌==◌, ◌&&◌, ◌||◌, List, [], ◌∷◌, refl, arith, ap, sym, ◌∙◌, subst, Option, Some, None, option_map}
+use Rattle.std.proofs.Common.{◌≡◌, ◌≢◌, ℕ, Bool, true, false, cond, not, ◌==◌, ◌&&◌, ◌||◌, List, [], ◌∷◌, refl, arith, ap, ◌∙◌, subst, Option, Some, None, option_map}
 use Rattle.std.proofs.lemmas.Bool.Decides.{nat_tests}
 use Rattle.std.specs.List.{find, list_any}
 use Rattle.std.specs.FinMap as fin
@@ -8,6 +8,8 @@ use Rattle.line_map.specs.Sizes.{Sizes, set_of}
 use Rattle.op_model.specs.Lines.{Absent, Copy, is_empty}
 use Rattle.op_model.specs.Run.Schedules.{other_in_set}
 use Rattle.op_model.specs.Shares.{Share, conflicts, copy_of}
+use Rattle.op_model.proofs.Shares.{empty-copy}
+use Rattle.op_model.proofs.Plain.{find-passes}
 use Rattle.one_history.proofs.Sets.{any-none, none-conflicts}
 
 find-nothing : {X : Type 0} (p : X → Bool) (xs : List X) → ((x : X) → p x ≡ false) → find p xs ≡ None
@@ -22,17 +24,6 @@ nothing-any {X = X} p (x ∷ xs) e = go (p x) refl e (nothing-any p xs)
     go true is e later = absurd (let n : ◌≡◌ {A = Option X} (Some x) None = e in cc)
     go false is e later = ap (λ b. b || list_any p xs) is ∙ later e
 
-found-passes : {X : Type 0} (p : X → Bool) (xs : List X) (x : X) → find p xs ≡ Some x → p x ≡ true
-found-passes {X = X} p [] x e = absurd (let n : ◌≡◌ {A = Option X} None (Some x) = e in cc)
-found-passes {X = X} p (y ∷ ys) x e = go (p y) refl e (found-passes p ys x)
-  where
-    go : (c : Bool) → p y ≡ c → ◌≡◌ {A = Option X} (cond c (Some y) (find p ys)) (Some x) → (find p ys ≡ Some x → p x ≡ true) → p x ≡ true
-    go true is e later = let same : y ≡ x = cc in ap p (sym same) ∙ is
-    go false is e later = later e
-
-copy-none : (copy : Copy) → is_empty copy ≡ true → copy ≡ Absent
-copy-none copy e = grind arith
-
 module _ (sizes : Sizes) (share : Share) (line : ℕ) where
   -- another line of the set has a copy
   abbrev stands : ℕ × Copy → Bool
@@ -43,7 +34,7 @@ module _ (sizes : Sizes) (share : Share) (line : ℕ) where
   IsAlone = (g : ℕ) → g ≢ line → set_of sizes g ≡ set_of sizes line → copy_of share g ≡ Absent
 
   pub alone-absent : conflicts sizes share line ≡ false → IsAlone
-  alone-absent free g apart same = copy-none (copy_of share g) (none-conflicts sizes share line g free apart same)
+  alone-absent free g apart same = empty-copy (copy_of share g) (none-conflicts sizes share line g free apart same)
 
   fails : IsAlone → (e : ℕ × Copy) → stands e ≡ false
   fails alone e = go (set_of sizes e.0 == set_of sizes line) (e.0 == line) refl refl
@@ -82,7 +73,7 @@ module _ (sizes : Sizes) (share : Share) (line : ℕ) where
       go None f e = absurd (let n : ◌≡◌ {A = Option ℕ} None (Some g) = e in cc)
       go (Some x) f e =
           let same : x.0 ≡ g = cc in
-          let passes = three (set_of sizes x.0 == set_of sizes line) (x.0 == line) (is_empty (copy_of share x.0)) (found-passes stands (fin.entries share.copies) x f) in
+          let passes = three (set_of sizes x.0 == set_of sizes line) (x.0 == line) (is_empty (copy_of share x.0)) (find-passes stands (fin.entries share.copies) x f) in
           subst (λ k. (set_of sizes k ≡ set_of sizes line) × (k ≢ line) × (is_empty (copy_of share k) ≡ false)) same (on passes.0, off passes.1, passes.2)
         where
           on : (set_of sizes x.0 == set_of sizes line) ≡ true → set_of sizes x.0 ≡ set_of sizes line

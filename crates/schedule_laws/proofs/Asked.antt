@@ -14,6 +14,7 @@ use Rattle.op_model.specs.Shares.{Charge, State, Trace, copy_of, share_at}
 use Rattle.op_model.specs.Tables.Home.{on_get, on_getx}
 use Rattle.op_model.specs.Tables.Processor.{serves}
 use Rattle.op_model.specs.Tables.Remote.{meets, on_message, row_of}
+use Rattle.line_invariant.proofs.Basics.{owner-only}
 use Rattle.one_history.proofs.RowMet.{meets-whole}
 use Rattle.one_history.proofs.Shares.{of_line-front}
 use Rattle.one_history.specs.Project.{of_line}
@@ -21,7 +22,7 @@ use Rattle.lane_bounds.proofs.Acts.{after_row_of, sent_of}
 use Rattle.schedule_laws.proofs.Known.{Delivers, IsKnown, IsUsual}
 use Rattle.schedule_laws.proofs.Recalls.{header_at}
 use Rattle.schedule_laws.proofs.RestLines.{IsRestLine}
-use Rattle.schedule_laws.proofs.RestMoments.{listed-only, owner-only, rest-at}
+use Rattle.schedule_laws.proofs.RestMoments.{listed-only, rest-at}
 use Rattle.schedule_laws.proofs.Settling.{wait-other}
 use Rattle.schedule_laws.proofs.Single.{OnlyOne, OnlySent, one-sent, only-sent}
 use Rattle.schedule_laws.proofs.Stages.{header-away, share-away}

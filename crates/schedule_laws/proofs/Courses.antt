@@ -2,6 +2,7 @@
 -- the schedule, the only one: each event is determined by the state before it.
 use Rattle.std.proofs.Common.{◌≡◌, ℕ, zero, suc, ◌+◌, List, [], ◌∷◌, ◌++◌, take, sum_by, refl, arith, ap, sym, ◌∙◌, subst, Option, Some, None, Result, Ok, Err}
 use Rattle.std.proofs.lemmas.List.Sums.{sum_by-cons}
+use Rattle.std.proofs.lemmas.Option.{same_Some}
 use Rattle.line_map.specs.Sizes.{Sizes}
 use Rattle.op_model.specs.declared.events.Cause.{Cause}
 use Rattle.op_model.specs.declared.events.Event.{Event}
@@ -80,19 +81,13 @@ module _ (next : State → Option Event) (charge : Charge) (sizes : Sizes) (prog
       (λ k moment runs. scheduled (suc k) moment (ap (λ r. and_then r (λ done. run_by charge sizes programs (past_after sizes past done) (take k events))) first.1 ∙ runs)) in
       ((scheduled 0 past refl, first.0, first.1, rest.0), rest.1)
 
-  same-event : (a b : Event) → ◌≡◌ {A = Option Event} (Some a) (Some b) → a ≡ b
-  same-event a b e = cc
-
-  same-done : (a b : Done) → ◌≡◌ {A = Result Done Cause} (Ok a) (Ok b) → a ≡ b
-  same-done a b e = cc
-
   -- two courses from one moment, after each of which the schedule has no next event, are one
   pub course-unique : (past end other : Past) (events more : List Event) → Leads past events end → Leads past more other → next end.state ≡ None → next other.state ≡ None → events ≡ more
   course-unique past end other [] [] one two ends stops = refl
   course-unique past end other [] (event ∷ more) one two ends stops = absurd (let n : ◌≡◌ {A = Option Event} None (Some event) = sym ends ∙ ap (λ (p : Past). next p.state) (sym one) ∙ two.0 in cc)
   course-unique past end other (event ∷ events) [] one two ends stops = absurd (let n : ◌≡◌ {A = Option Event} None (Some event) = sym stops ∙ ap (λ (p : Past). next p.state) (sym two) ∙ one.0 in cc)
   course-unique past end other (event ∷ events) (also ∷ more) one two ends stops =
-      let same : event ≡ also = same-event event also (sym one.0 ∙ two.0) in
-      let alike : one.1 ≡ two.1 = same-done one.1 two.1 (sym one.2 ∙ ap (effect charge sizes programs past.state) same ∙ two.2) in
+      let same : event ≡ also = same_Some event also (sym one.0 ∙ two.0) in
+      let alike : one.1 ≡ two.1 = cc (sym one.2 ∙ ap (effect charge sizes programs past.state) same ∙ two.2) in
       let rest = course-unique (past_after sizes past one.1) end other events more one.3 (subst (λ d. Leads (past_after sizes past d) more other) (sym alike) two.3) ends stops in
       ap (λ e. e ∷ events) same ∙ ap (λ es. also ∷ es) rest

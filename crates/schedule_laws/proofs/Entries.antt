@@ -1,7 +1,8 @@
 -- The entry of one operation. At rest a node has as many entries as its place says; so where one node has gone on by one and no other has, one
 -- entry was added, of that node, and it is that of the operation at the place.
 use Rattle.std.proofs.Common.{◌≡◌, ◌≢◌, ℕ, suc, ◌+◌, ◌<◌, ◌≤◌, Bool, true, false, cond, ◌==◌, List, [], ◌∷◌, ◌++◌, length, refl, ap, arith, ◌∙◌, subst, Option, Some}
-use Rattle.std.specs.Prelude.{slice_get, nat_lt}
+use Rattle.std.specs.Prelude.{slice_get}
+use Rattle.std.proofs.lemmas.Bool.{lt-ltb}
 use Rattle.std.proofs.lemmas.Bool.Decides.{nat_tests}
 use Rattle.op_model.specs.declared.operations.Entry.{Entry}
 use Rattle.op_model.specs.declared.operations.Op.{Op}
@@ -73,8 +74,5 @@ all-kept state (o ∷ ops) (e ∷ entries) all below =
     let less = below 0 o refl in
     let index : e.index ≡ o.index = all.1.0 in
     let place : (state.share e.node).place ≡ (state.share o.node).place = ap (λ n. (state.share n).place) all.0 in
-    let is : is_completed state e ≡ true = done e.index (state.share e.node).place (omega arith) in
+    let is : is_completed state e ≡ true = lt-ltb e.index (state.share e.node).place (omega arith) in
     ap (λ c. cond c (e ∷ kept_of state entries) (kept_of state entries)) is ∙ ap (λ es. e ∷ es) (all-kept state ops entries all.2 (λ k. below (suc k)))
-  where
-    done : (a b : ℕ) → a < b → nat_lt a b ≡ true
-    done a b less = grind (arith, nat_tests)

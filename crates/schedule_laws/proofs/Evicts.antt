@@ -1,6 +1,7 @@
 -- Room is made for the next operation at rest: the line that stands in the cache set leaves, its message is taken, and the machine is at
 -- rest as before, but for that copy.
 use Rattle.std.proofs.Common.{◌≡◌, ◌≢◌, ℕ, suc, ◌<◌, ◌≤◌, ◌⊎◌, inl, inr, Bool, true, false, cond, not, nat_lt, ◌==◌, ◌&&◌, [], ◌∷◌, refl, arith, ap, sym, ◌∙◌, subst, Option, Some, Result, Ok, Err}
+use Rattle.std.proofs.lemmas.Bool.{cases_lt}
 use Rattle.std.proofs.lemmas.Bool.Decides.{nat_tests}
 use Rattle.line_map.specs.Sizes.{Sizes, home_of}
 use Rattle.op_model.specs.declared.events.Cause.{Cause}
@@ -24,9 +25,9 @@ use Rattle.op_model.specs.Tables.Processor.{evict, fits, leave_home, leave_remot
 use Rattle.op_model.specs.Tables.Remote.{meets, on_message, row_of}
 use Rattle.line_invariant.proofs.Basics.{if-either}
 use Rattle.one_history.proofs.Shares.{copy-other, copy-same}
+use Rattle.one_history.proofs.Moves.{put-stays}
 use Rattle.lane_bounds.proofs.Acts.{after_row_of, sent_of, taken_of}
 use Rattle.lane_bounds.proofs.Effects.{asks_victim, row_at}
-use Rattle.node_range.proofs.Programs.{below}
 use Rattle.rest_laws.proofs.AtRest.{rests}
 use Rattle.schedule_laws.specs.Courses.{is_any_nak}
 use Rattle.schedule_laws.proofs.Begins.{IsMade, evict-made}
@@ -73,10 +74,6 @@ left-row me home src alone room share content (inr e) = subst (λ c. IsSilent sh
     back : IsSilent share (on_message me home src alone room (Wb e.0) share)
     back = if-either (IsSilent share) (meets me home src alone (Wb e.0) share) _ _ (λ _. (refl, refl)) (λ _. (refl, refl))
 
-place-of-row : (sizes : Sizes) (at_home : Bool) (line : ℕ) (done : Bool) (row : LineShare) (share : Share) → done ≡ false → (put_share sizes at_home line done row share).place ≡ share.place
-unfolding put_share
-place-of-row sizes at_home line done row share e = ap (λ d. cond d (suc share.place) share.place) e
-
 module _ (charge : Charge) (trace : Trace) (usual : IsUsual trace) (next : State → Option Event) (delivers : Delivers charge trace usual next) (p : ℕ) (first : Past) (known : IsKnown charge trace first) (at_rest : IsAtRest first.state)
     (p_in : p < trace.sizes.nodes) (g : ℕ) (has : is_empty (copy_of (first.state.share p) g) ≡ false) where
   abbrev sizes : Sizes
@@ -95,7 +92,7 @@ module _ (charge : Charge) (trace : Trace) (usual : IsUsual trace) (next : State
   kind = eviction_of (p == home) (copy_of (first.state.share p) g)
 
   home_in : home < sizes.nodes
-  home_in = go (below home sizes.nodes)
+  home_in = go (cases_lt home sizes.nodes)
     where
       go : (home < sizes.nodes) ⊎ (sizes.nodes ≤ home) → home < sizes.nodes
       go (inl less) = less
@@ -184,7 +181,7 @@ module _ (charge : Charge) (trace : Trace) (usual : IsUsual trace) (next : State
                 (ap (λ s. copy_of s g) share_p ∙ gone-then then at)
               where
                 place-home : (then : Past) (l : ℕ) (o : Outcome) → o.done ≡ false → (put_share sizes (home == home_of sizes l) l o.done o.share (then.state.share home)).place ≡ (then.state.share home).place
-                place-home then l o e = place-of-row sizes (home == home_of sizes l) l o.done o.share (then.state.share home) e
+                place-home then l o e = put-stays sizes (home == home_of sizes l) l o.done o.share (then.state.share home) e
 
   -- an eviction of the schedule, and what comes after it
   pub round-evicted : (most naks : ℕ) → next first.state ≡ Some (Evict p g kind) → Later most naks → IsRound charge trace usual next delivers p places first (suc (suc most)) naks

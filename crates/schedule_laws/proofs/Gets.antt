@@ -15,7 +15,7 @@ use Rattle.op_model.specs.Run.Runs.{Past}
 use Rattle.op_model.specs.Shares.{Charge, State, Trace, copy_of, room_of, share_at}
 use Rattle.op_model.specs.Tables.Home.{lacks_link, on_get, on_getx, wants_victim}
 use Rattle.op_model.specs.Tables.Processor.{serves}
-use Rattle.line_invariant.proofs.Basics.{eq-self}
+use Rattle.op_model.proofs.Plain.{eqb-self}
 use Rattle.lane_bounds.proofs.Acts.{after_row_of, taken_of}
 use Rattle.lane_bounds.proofs.Effects.{asks_victim, row_at}
 use Rattle.rest_laws.proofs.Sends.{sends-listed, sends_weight}
@@ -169,7 +169,7 @@ module _ (charge : Charge) (trace : Trace) (usual : IsUsual trace) (next : State
         let a = idle charge trace usual next delivers first known rests p line op missed p_in home_in apart outcome Get sends then stage is in
         let b = calm charge trace usual next delivers first known rests p line op missed p_in home_in apart outcome Get sends then stage is in
         let c = free charge trace usual next delivers first known rests p line op missed p_in home_in apart outcome Get sends then stage is in
-        together (home_at == home_at) (is_pending home_share.header) (lacks_link home_room p home_share.header) home_room.link_pending home_room.full (eq-self home_at) a b c
+        together (home_at == home_at) (is_pending home_share.header) (lacks_link home_room p home_share.header) home_room.link_pending home_room.full (eqb-self home_at) a b c
       where
         together : (h i l b c : Bool) → h ≡ true → i ≡ false → b ≡ false → c ≡ false → (true && h && (not i && l && not b && not c)) ≡ l
         together h i l b c x y z w = grind arith

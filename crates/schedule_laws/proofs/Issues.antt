@@ -17,6 +17,7 @@ use Rattle.op_model.specs.Run.Schedules.{processor_event}
 use Rattle.op_model.specs.Shares.{Charge, State, Trace, conflicts, copy_of, program, room_of, share_at, want_on}
 use Rattle.op_model.specs.Tables.Home.{lacks_link}
 use Rattle.op_model.specs.Tables.Processor.{ask, begin_at_home, begin_op, serves}
+use Rattle.line_invariant.proofs.Basics.{owner-only}
 use Rattle.lane_bounds.proofs.Acts.{after_row_of, sent_of}
 use Rattle.node_range.proofs.Programs.{next-in}
 use Rattle.rest_laws.proofs.Sends.{sends_weight}
@@ -29,7 +30,7 @@ use Rattle.schedule_laws.proofs.Known.{Delivers, IsKnown, IsNoNak, IsUsual}
 use Rattle.schedule_laws.proofs.Recalls.{calm-grants, header_at}
 use Rattle.schedule_laws.proofs.Requests.{IsBegunAs, IsBegunHere, IsCallingFor, IsDoneHere, ask-row, begin-away, begin-home, each-settles, home-row}
 use Rattle.schedule_laws.proofs.RestLines.{IsRestLine}
-use Rattle.schedule_laws.proofs.RestMoments.{free-at, idle-at, listed-only, owner-only, rest-at, room-free, tracked-first, unlisted-at}
+use Rattle.schedule_laws.proofs.RestMoments.{free-at, idle-at, listed-only, rest-at, room-free, tracked-first, unlisted-at}
 use Rattle.schedule_laws.proofs.Rounds.{IsRound, round-made, round-none, round-wider}
 use Rattle.schedule_laws.proofs.Settled.{AllSettle, still}
 use Rattle.schedule_laws.proofs.Settling.{GoesOn, grants_at}

@@ -2,9 +2,8 @@
 -- list.
 use Rattle.std.proofs.Common.{◌≡◌, ℕ, zero, suc, ◌+◌, ◌<◌, ◌≤◌, Bool, true, false, cond, List, [], ◌∷◌, ◌++◌, length, take, refl, ap, arith, ◌∙◌, Option, Some, None}
 use Rattle.std.specs.Prelude.{slice_get, find, filter, count_by}
-use Rattle.std.proofs.lemmas.List.{take_more}
 use Rattle.std.proofs.lemmas.List.Sums.{sum_by-cons, sum_by-append}
-use Rattle.std.proofs.lemmas.Option.{get_or_from_slice_get, slice_get_within}
+pub use Rattle.op_model.proofs.Plain.{take-next}
 
 -- an index with nothing there, no more than the length, is the length
 pub at-end : {A : Type 0} (xs : List A) (i : ℕ) → slice_get xs i ≡ None → i ≤ length xs → i ≡ length xs
@@ -49,7 +48,3 @@ count_by-take_lt p (y ∷ xs) zero (suc j) x below is passes =
     omega (arith, one, count_by-cons p y (take j xs))
 count_by-take_lt p (y ∷ xs) (suc k) (suc j) x below is passes =
     omega (arith, count_by-take_lt p xs k j x (omega arith) is passes, count_by-cons p y (take k xs), count_by-cons p y (take j xs))
-
--- the first elements of a list, and the next one
-pub take-next : {A : Type 0} (xs : List A) (i : ℕ) (x : A) → slice_get xs i ≡ Some x → take (i + 1) xs ≡ take i xs ++ x ∷ []
-take-next xs i x is = take_more xs i x (slice_get_within xs i x is) ∙ ap (λ y. take i xs ++ y ∷ []) (get_or_from_slice_get xs i x x is)

@@ -15,6 +15,7 @@ use Rattle.op_model.specs.Run.Schedules.{eviction_of, lane_or_next, make_room, o
 use Rattle.op_model.specs.Shares.{Charge, State, Trace, conflicts, copy_of, program, room_of, share_at, want_on}
 use Rattle.op_model.specs.Tables.Home.{lacks_link}
 use Rattle.op_model.specs.Tables.Processor.{hit, serves}
+use Rattle.op_model.proofs.Shares.{empty-copy}
 use Rattle.one_history.specs.Sound.{IsCached}
 use Rattle.node_range.proofs.Programs.{next-in}
 use Rattle.rest_laws.proofs.FirstLane.{clear-none}
@@ -108,9 +109,6 @@ module _ (charge : Charge) (trace : Trace) (usual : IsUsual trace) (next : State
   kept-copy : (copy : Copy) (b : Bool) → is_empty copy ≡ false → (not (is_empty copy) || b) ≡ true
   kept-copy copy b e = ap (λ c. not c || b) e
 
-  copy-none : (copy : Copy) → is_empty copy ≡ true → copy ≡ Absent
-  copy-none copy e = grind arith
-
   module _ (first : Past) (known : IsKnown charge trace first) (rests : IsAtRest first.state) (is : slice_get (program trace p) (first.state.share p).place ≡ Some op) (chooses : Chooses charge trace next (λ n. (first.state.share n).place) op) where
     abbrev place_of : ℕ → ℕ
     place_of n = (first.state.share n).place
@@ -127,7 +125,7 @@ module _ (charge : Charge) (trace : Trace) (usual : IsUsual trace) (next : State
         go false e = let far : x ≢ g = grind (arith, nat_tests) in copies x far ∙ empty far (is_empty (copy_of (first.state.share p) x)) refl
           where
             empty : x ≢ g → (c : Bool) → is_empty (copy_of (first.state.share p) x) ≡ c → copy_of (first.state.share p) x ≡ Absent
-            empty far true f = copy-none _ f
+            empty far true f = empty-copy _ f
             empty far false f = absurd (far (cached x g (kept-copy _ _ f) (kept-copy _ _ has) (same ∙ sym in_set)))
 
     -- room is made, and then the operation is issued

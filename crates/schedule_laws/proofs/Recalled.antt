@@ -1,6 +1,6 @@
 -- Rows while one line is called in for its links: Inv, InvAck and the Nak of the Get that wants a link. None of them is done, brings a
 -- copy, or changes the header of a line that waits for nothing; the line that is called in waits until nobody is listed.
-use Rattle.std.proofs.Common.{◌≡◌, ℕ, ◌-◌, ◌⊎◌, inl, inr, Bool, true, false, not, ◌==◌, ◌&&◌, nat_le, refl, arith, ap, sym, subst}
+use Rattle.std.proofs.Common.{◌≡◌, ℕ, ◌-◌, ◌⊎◌, inl, inr, Bool, true, false, not, ◌==◌, nat_le, refl, arith, ap, sym, subst}
 use Rattle.std.proofs.lemmas.Bool.Decides.{nat_tests}
 use Rattle.op_model.specs.declared.state.Grantee.{Grantee}
 use Rattle.op_model.specs.declared.state.Grantee.TheVariants.{Me, Node, Nobody}
@@ -11,6 +11,7 @@ use Rattle.op_model.specs.Messages.{Content, Get, GetX, FwdGet, FwdGetX, Inv, Wb
 use Rattle.op_model.specs.Lines.{Absent, Copy, Exclusive, Header, LineShare, Outcome, Room, Shared, is_idle, is_pending, nobody_listed, without_shared}
 use Rattle.op_model.specs.Tables.Home.{grant, grantee_of, on_inv_ack}
 use Rattle.op_model.specs.Tables.Remote.{meets, row_of, on_message, on_inv, on_nak, is_invalidate}
+use Rattle.op_model.proofs.Plain.{last_two_parts}
 use Rattle.line_invariant.proofs.Basics.{if-either}
 use Rattle.schedule_laws.proofs.Settled.{settles}
 use Rattle.schedule_laws.proofs.Under.{AllSent}
@@ -94,9 +95,6 @@ module _ (me home sender : ℕ) (room : Room) (share : LineShare) where
   abbrev pub IsCalm : Type 0
   IsCalm = (is_pending share.header ≡ false) ⊎ IsCalledIn share.header
 
-  three : (a b c : Bool) → (a && b && c) ≡ true → (b ≡ true) × (c ≡ true)
-  three a b c e = (grind arith, grind arith)
-
   calm-acked : IsCalm → is_invalidate share.header.wait ≡ true → listed share.header.list sender ≡ true → IsRecalling me home share (on_inv_ack sender share)
   calm-acked (inl idle) waits has = absurd (waits-not share.header waits idle)
   calm-acked (inr (inl called)) waits has = acked called.0 called.1 has
@@ -114,7 +112,7 @@ module _ (me home sender : ℕ) (room : Room) (share : LineShare) where
   row-recalls calm alone (Put words) kind meet = cc
   row-recalls calm alone (PutX words) kind meet = cc
   row-recalls calm alone (Nak cause) kind meet = stays _ tt refl (λ e. e) refl
-  row-recalls calm alone InvAck kind meet = let both = three (me == home) (is_invalidate share.header.wait) (listed share.header.list sender) meet in calm-acked calm both.0 both.1
+  row-recalls calm alone InvAck kind meet = let both = last_two_parts (me == home) (is_invalidate share.header.wait) (listed share.header.list sender) meet in calm-acked calm both.0 both.1
   row-recalls calm alone (ShWb words) kind meet = cc
   row-recalls calm alone FAck kind meet = cc
   row-recalls calm alone Nakc kind meet = cc

@@ -5,9 +5,9 @@ use Rattle.op_model.specs.declared.events.Class.TheVariants.{Request}
 use Rattle.op_model.specs.declared.state.Wait.TheVariants.{Idle}
 use Rattle.op_model.specs.Lines.{Copy, Header, is_empty, is_exclusive}
 use Rattle.op_model.specs.Nodes.{none, only}
+use Rattle.op_model.proofs.Plain.{eqb-self}
 use Rattle.line_invariant.specs.Line.{Line}
 use Rattle.line_invariant.specs.Good.{Answered, Asked, Asking, AskingX, Called, Carrier, Clean, Forwarded, Granted, HandedOn, Hints, HomeOwns, IsGood, IsGoodHeader, Leaving, NotLeaving, Owned, Phase, Resting, SharedOut, WritesBack, answer_part, holds_in, is_write_answer, is_write_back, leaving_part, role_in}
-use Rattle.line_invariant.proofs.Basics.{eq-self}
 use Rattle.rest_laws.proofs.Quiet.{app-none, no-answer, quiet-header, silent}
 
 -- a clean line
@@ -28,7 +28,7 @@ IsRestLine home header copies = IsCleanLine header ⊎ IsHomesLine header (copie
 module _ (home : ℕ) (line : Line) (good : IsGood home line) (empty : (a b : ℕ) (class : Class) → line.lane a b class ≡ []) where
   -- no node that isn't the home evicts
   not-leaving : (n : ℕ) → n ≢ home → leaving_part (good.status n).leaving ≡ []
-  not-leaving n far = (app-none (leaving_part (good.status n).leaving) _ (rw (eq-self home) at (silent home line good empty n home Request))).0
+  not-leaving n far = (app-none (leaving_part (good.status n).leaving) _ (rw (eqb-self home) at (silent home line good empty n home Request))).0
 
   no-write-back : (leaving : Leaving) → leaving_part leaving ≡ [] → is_write_back leaving ≡ false
   no-write-back NotLeaving e = refl
@@ -42,7 +42,7 @@ module _ (home : ℕ) (line : Line) (good : IsGood home line) (empty : (a b : �
   no-write-answer Granted e = refl
   no-write-answer (Forwarded write) e = refl
   no-write-answer (Answered from content) e =
-      absurd (let a = e from in let b : answer_part from (Answered from content) ≡ content ∷ [] = rw (eq-self from) refl in let n : [] ≡ content ∷ [] = sym a ∙ b in cc)
+      absurd (let a = e from in let b : answer_part from (Answered from content) ≡ content ∷ [] = rw (eqb-self from) refl in let n : [] ≡ content ∷ [] = sym a ∙ b in cc)
 
   -- the node that holds the line has an exclusive copy
   exclusive-or : (a b c : Bool) → (a || b || c) ≡ true → b ≡ false → c ≡ false → a ≡ true
@@ -51,7 +51,7 @@ module _ (home : ℕ) (line : Line) (good : IsGood home line) (empty : (a b : �
   owner-has : (owner : ℕ) → owner ≢ home → holds_in (role_in home line.words (Owned owner) owner) ≡ holds_in (role_in home line.words good.phase owner) → is_exclusive (line.copy owner) ≡ true
   owner-has owner far same =
       let it = good.nodes owner far in
-      let holds : holds_in (role_in home line.words (Owned owner) owner) ≡ true = rw (eq-self owner) refl in
+      let holds : holds_in (role_in home line.words (Owned owner) owner) ≡ true = rw (eqb-self owner) refl in
       exclusive-or (is_exclusive (line.copy owner)) (is_write_answer (good.status owner).carrier) (is_write_back (good.status owner).leaving)
       (it.one_holds ∙ sym same ∙ holds)
       (no-write-answer (good.status owner).carrier (no-answer home line good empty owner))

@@ -6,8 +6,8 @@ use Rattle.std.proofs.lemmas.List.Sums.{sum_by-cons}
 use Rattle.std.specs.List.{list_any}
 use Rattle.std.specs.FinMap as fin
 use Rattle.line_map.specs.Sizes.{Sizes, home_of}
-use Rattle.op_model.specs.Lines.{Header, Outcome, first_of_list, is_pending, owner}
-use Rattle.op_model.specs.Nodes.{count, in_order, in_order-only, listed, only, listings}
+use Rattle.op_model.specs.Lines.{Outcome, is_pending}
+use Rattle.op_model.specs.Nodes.{count, listed, only, listings}
 use Rattle.op_model.specs.Run.Rest.{IsAtRest}
 use Rattle.op_model.specs.Run.Runs.{Past}
 use Rattle.op_model.specs.Shares.{Charge, Lanes, Share, State, Trace, copy_of, pending_lines, put_share, room_of, want_after}
@@ -84,10 +84,6 @@ module _ (charge : Charge) (trace : Trace) (usual : IsUsual trace) (past : Past)
       mine : GoesOn outcome → IsUnderway (state.share p).place row
       mine (inl done) = inr (want-is ∙ done.1, place-is ∙ ap (λ d. cond d (suc (state.share p).place) (state.share p).place) done.0)
       mine (inr begun) = inl (ap is_some want-is ∙ begun.1, place-is ∙ ap (λ d. cond d (suc (state.share p).place) (state.share p).place) begun.0)
-
--- the one node listed is the owner
-pub owner-only : (header : Header) (o : ℕ) → header.list ≡ only o → owner header ≡ o
-owner-only header o e = ap (λ l. first_of_list (in_order l)) e ∙ ap first_of_list (in_order-only o)
 
 pub listed-only : (o : ℕ) → listed (only o) o ≡ true
 listed-only o = grind (arith, nat_tests, listings)

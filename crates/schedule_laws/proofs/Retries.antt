@@ -18,6 +18,7 @@ use Rattle.op_model.specs.Run.Schedules.{make_room, other_in_set, processor_even
 use Rattle.op_model.specs.Shares.{Charge, State, Trace, conflicts, copy_of, held_links, is_linked, links_in, program, put_share, room_of, share_at}
 use Rattle.op_model.specs.Tables.Home.{lacks_link, on_get, refuse}
 use Rattle.op_model.specs.Tables.Processor.{ask, holds_link, serves}
+use Rattle.op_model.proofs.Plain.{three_parts}
 use Rattle.one_history.proofs.Shares.{copy-other, copy-same}
 use Rattle.lane_bounds.proofs.Acts.{after_act, after_row_of, taken_of}
 use Rattle.lane_bounds.proofs.Effects.{asks_victim, is_fit, row_at, taking}
@@ -211,9 +212,6 @@ module _ (charge : Charge) (trace : Trace) (usual : IsUsual trace) (next : State
             let other : x ≢ line = grind (arith, nat_tests) in
             copy-other sizes (p == home_of sizes line) line sent.done sent.share (first.state.share p) x other ∙ none
 
-    three : (a b c : Bool) → (a && b && c) ≡ true → (a ≡ true) × (b ≡ true)
-    three a b c e = (grind arith, grind arith)
-
     -- the refusal, and the round that comes when the line that is called in has settled
     pub round-wanting : IsRound charge trace usual next delivers p places then (suc ((2 * sizes.nodes - 1) + 5)) 1
     unfolding after_act
@@ -225,7 +223,7 @@ module _ (charge : Charge) (trace : Trace) (usual : IsUsual trace) (next : State
             last.state ≡ after_act sizes (record (taking charge sizes then.state p home (msg_class m) m []) { called = Some v }) then.state → IsRound charge trace usual next delivers p places last ((2 * sizes.nodes - 1) + 5) 0
         called v last known_last fit state_is =
             let far : home ≢ p = (λ e. apart (sym e)) in
-            let both = three (home_of sizes v == home) (holds_link (room_of charge sizes (then.state.share home)) (share_at sizes then.state home v).header) (not (is_pending (share_at sizes then.state home v).header)) fit in
+            let both = three_parts (home_of sizes v == home) (holds_link (room_of charge sizes (then.state.share home)) (share_at sizes then.state home v).header) (not (is_pending (share_at sizes then.state home v).header)) fit in
             let of_home : home_of sizes v ≡ home = here both.0 in
             let shares = share-kept charge trace usual next delivers first known rests p line op missed apart sent Get sends_get then stage.known at in
             let headers = headers-kept charge trace usual next delivers first known rests p line op missed apart sent Get sends_get then stage.known at in

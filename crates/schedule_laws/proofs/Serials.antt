@@ -4,6 +4,7 @@ use Rattle.std.proofs.Common.{◌≡◌, ◌≢◌, ℕ, zero, suc, ◌+◌, ◌
 use Rattle.std.specs.Prelude.{slice_get}
 use Rattle.std.proofs.lemmas.Bool.Decides.{nat_tests}
 use Rattle.std.proofs.lemmas.List.{take_all}
+use Rattle.std.proofs.lemmas.Option.{same_Some}
 use Rattle.op_model.specs.declared.events.Event.{Event}
 use Rattle.op_model.specs.declared.operations.Op.{Op}
 use Rattle.op_model.specs.Events.Step.{Programs}
@@ -12,6 +13,7 @@ use Rattle.op_model.specs.Run.Rest.{IsAtRest}
 use Rattle.op_model.specs.Run.Runs.{Past, run, run_by, start}
 use Rattle.op_model.specs.Run.Schedules.{IsSerial, current, first_busy, serial_next}
 use Rattle.op_model.specs.Shares.{Charge, State, Trace, program}
+use Rattle.op_model.proofs.Plain.{take-next}
 use Rattle.one_history.specs.Sound.{IsSound}
 use Rattle.rest_laws.proofs.AtRest.{resting}
 use Rattle.rest_laws.proofs.Deliver.{run-on}
@@ -22,7 +24,7 @@ use Rattle.schedule_laws.proofs.Courses.{course-append, course-run, course-sched
 use Rattle.schedule_laws.proofs.Entries.{IsOne, all-kept, entries-push, entry-at, last-follows, one-entry}
 use Rattle.schedule_laws.proofs.Finishes.{none-next, rest-quiet}
 use Rattle.schedule_laws.proofs.Known.{IsUsual, known-run}
-use Rattle.schedule_laws.proofs.Lists.{at-end, take-next}
+use Rattle.schedule_laws.proofs.Lists.{at-end}
 use Rattle.schedule_laws.proofs.Orders.{HaveDone, all-below, all-places, current-is, current-none, done-more, index-is, next-op}
 use Rattle.schedule_laws.proofs.Uniques.{serial-unique}
 use Rattle.schedule_laws.proofs.Served.{Adds, more-by, more-count, rest-count, served-prefix}
@@ -176,12 +178,9 @@ module _ (charge : Charge) (trace : Trace) (usual : IsUsual trace) (ordered : Is
       let one = serial-ends in
       let same : one.events ≡ events = serial-unique charge trace one.past past one.events events one.serial serial in
       let ran : run charge trace events ≡ Some one.past = ap (run charge trace) (sym same) ∙ one.serial.ran in
-      let alike : one.past ≡ past = some-one one.past past (sym ran ∙ serial.ran) in (
+      let alike : one.past ≡ past = same_Some one.past past (sym ran ∙ serial.ran) in (
         subst (λ p. AreEntriesOf trace.ops (history p)) alike one.in_order,
         subst (λ (p : Past). AreAllDone trace p.state) alike one.done,
         subst (λ (p : Past). IsAtRest p.state) alike one.rests,
         subst (λ (es : List Event). length es ≤ (2 * trace.sizes.nodes + 8) * length trace.ops) same one.within,
       )
-    where
-      some-one : (a b : Past) → ◌≡◌ {A = Option Past} (Some a) (Some b) → a ≡ b
-      some-one a b e = cc

@@ -14,6 +14,7 @@ use Rattle.op_model.specs.Messages.{Content, Get, GetX, FwdGet, FwdGetX, Inv, Wb
 use Rattle.op_model.specs.Lines.{Exclusive, Header, LineShare, Room, Outcome, Own, sending, is_idle, marked_load}
 use Rattle.op_model.specs.Tables.Home.{grant, grantee_of, on_inv_ack, on_shwb, on_fack, on_wb, on_rpl}
 use Rattle.op_model.specs.Tables.Remote.{meets, row_of, on_message, on_inv, on_put, on_putx, on_nak, waits_load, waits_write, is_invalidate}
+use Rattle.op_model.proofs.Plain.{three_parts}
 use Rattle.line_invariant.proofs.Basics.{if-either}
 use Rattle.schedule_laws.specs.Courses.{is_any_nak}
 
@@ -170,9 +171,6 @@ module _ (me home sender : ℕ) (room : Room) (share : LineShare) where
       go (Some want) is waits true = record { lighter = omega arith; fewer = omega arith; sends = tt; unwanted = λ none. absurd (let n : ◌≡◌ {A = Option Want} (Some want) None = sym is ∙ none in cc); wanted = λ nak some. inl (refl, refl) }
       go (Some want) is waits false = record { lighter = omega arith; fewer = omega arith; sends = tt; unwanted = λ none. absurd (let n : ◌≡◌ {A = Option Want} (Some want) None = sym is ∙ none in cc); wanted = λ nak some. inl (refl, refl) }
 
-  first2 : (a b c : Bool) → (a && b && c) ≡ true → (a ≡ true) × (b ≡ true)
-  first2 a b c e = (grind arith, grind arith)
-
   row-settles : (alone : Bool) (content : Content) → settles content ≡ true → meets me home sender alone content share ≡ true → Settling content (row_of me home sender room content share)
   unfolding row_of meets on_nak on_wb on_rpl on_shwb on_fack
   row-settles alone Get kind meet = cc
@@ -183,15 +181,15 @@ module _ (me home sender : ℕ) (room : Room) (share : LineShare) where
   row-settles alone Inv kind meet = inv-settles
   row-settles alone (Wb words) kind meet = silent (me == home) (Wb words) share _ (omega arith)
   row-settles alone Rpl kind meet = if-either (Settling Rpl) (is_idle share.header.wait && not share.header.dirty) _ _ (λ _. silent (me == home) Rpl share _ (omega arith)) (λ _. silent (me == home) Rpl share share.header (omega arith))
-  row-settles alone (Put words) kind meet = put-settles words share.want refl (first2 (waits_load share.want) alone _ meet).0
-  row-settles alone (PutX words) kind meet = putx-settles words (first2 (waits_write share.want) alone _ meet).0
+  row-settles alone (Put words) kind meet = put-settles words share.want refl (three_parts (waits_load share.want) alone _ meet).0
+  row-settles alone (PutX words) kind meet = putx-settles words (three_parts (waits_write share.want) alone _ meet).0
   row-settles alone (Nak cause) kind meet =
       record { lighter = light (me == home); fewer = omega arith; sends = tt; unwanted = λ none. (refl, refl); wanted = λ nak some. cc }
     where
       light : (c : Bool) → 0 + cond c (grants share.header.wait) (grants share.header.wait) < 1 + grants share.header.wait
       light true = omega arith
       light false = omega arith
-  row-settles alone InvAck kind meet = let both = first2 (me == home) (is_invalidate share.header.wait) _ meet in acked (grind (arith, nat_tests)) both.1
+  row-settles alone InvAck kind meet = let both = three_parts (me == home) (is_invalidate share.header.wait) _ meet in acked (grind (arith, nat_tests)) both.1
   row-settles alone (ShWb words) kind meet = silent (me == home) (ShWb words) share _ (omega arith)
   row-settles alone FAck kind meet = silent (me == home) FAck share _ (omega arith)
 

@@ -10,12 +10,13 @@ use Rattle.op_model.specs.Messages.{Content, class_of, message, msg_class, msg_c
 use Rattle.op_model.specs.Run.Schedules.{first_busy}
 use Rattle.op_model.specs.Run.Weight.{total}
 use Rattle.op_model.specs.Shares.{Lanes, State}
+use Rattle.op_model.proofs.Shares.{same_class-is, same_class-self}
+use Rattle.op_model.proofs.Plain.{total-zero, eqb-swap, eqb-self}
 use Rattle.line_invariant.specs.Line.{addressed}
-use Rattle.one_history.proofs.Project.{one_class}
 use Rattle.lane_bounds.proofs.Acts.{sent_of, tag, taken_of}
 use Rattle.rest_laws.proofs.FirstLane.{busy-some, first-some}
 use Rattle.rest_laws.proofs.Sends.{sends_weight}
-use Rattle.rest_laws.proofs.Totals.{total-same, total-zero}
+use Rattle.rest_laws.proofs.Totals.{total-same}
 use Rattle.rest_laws.proofs.Weights.{weight-sent, weight_by}
 use Rattle.schedule_laws.proofs.Settled.{still}
 use Rattle.schedule_laws.proofs.Under.{AllUnder}
@@ -44,11 +45,8 @@ none-sent node line lane only a b class = only a b class ∙ go (a == node)
 
 -- one message sent is the only one
 pub one-sent : (node line to : ℕ) (content : Content) (lane : Lanes) → OnlySent node line ((to, content) ∷ []) lane → OnlyOne node to (message line content) lane
-one-sent node line to content lane only a b class = only a b class ∙ go (a == node) (to == b) (b == to) (turned to b) ∙ ap (λ c. cond ((a == node) && ((b == to) && same_class class (class_of c))) (message line content ∷ []) []) (sym (msg_content-message line content))
+one-sent node line to content lane only a b class = only a b class ∙ go (a == node) (to == b) (b == to) (eqb-swap to b) ∙ ap (λ c. cond ((a == node) && ((b == to) && same_class class (class_of c))) (message line content ∷ []) []) (sym (msg_content-message line content))
   where
-    turned : (x y : ℕ) → (x == y) ≡ (y == x)
-    turned x y = grind (arith, nat_tests)
-
     go : (c d e : Bool) → d ≡ e → cond c (tag line (cond (d && same_class class (class_of content)) (content ∷ []) [])) [] ≡ cond (c && (e && same_class class (class_of content))) (message line content ∷ []) []
     go false d e f = refl
     go true d e f = here d e f (same_class class (class_of content))
@@ -60,18 +58,11 @@ one-sent node line to content lane only a b class = only a b class ∙ go (a == 
         here true false f k = cc
         here false true f k = cc
 
-self-class : (class : Class) → same_class class class ≡ true
-self-class Request = refl
-self-class Reply = refl
-
 module _ (node to : ℕ) (m : Msg) (lane : Lanes) (only : OnlyOne node to m lane) where
   -- the lane of the message
   pub one-front : lane node to (msg_class m) ≡ m ∷ []
-  one-front = only node to (msg_class m) ∙ go (node == node) (to == to) (same_class (msg_class m) (msg_class m)) (at node) (at to) (self-class (msg_class m))
+  one-front = only node to (msg_class m) ∙ go (node == node) (to == to) (same_class (msg_class m) (msg_class m)) (eqb-self node) (eqb-self to) (same_class-self (msg_class m))
     where
-      at : (n : ℕ) → (n == n) ≡ true
-      at n = grind (arith, nat_tests)
-
       go : (a b c : Bool) → a ≡ true → b ≡ true → c ≡ true → cond (a && (b && c)) (m ∷ []) [] ≡ m ∷ []
       go true true true x y z = refl
       go true true false x y z = cc
@@ -83,7 +74,7 @@ module _ (node to : ℕ) (m : Msg) (lane : Lanes) (only : OnlyOne node to m lane
   one-lane a b class some = go (a == node) (b == to) (same_class class (msg_class m)) refl refl refl (only a b class)
     where
       go : (c d e : Bool) → (a == node) ≡ c → (b == to) ≡ d → same_class class (msg_class m) ≡ e → lane a b class ≡ cond (c && (d && e)) (m ∷ []) [] → (a ≡ node) × (b ≡ to) × (class ≡ msg_class m)
-      go true true true x y z is = (grind (arith, nat_tests), grind (arith, nat_tests), one_class class (msg_class m) z)
+      go true true true x y z is = (grind (arith, nat_tests), grind (arith, nat_tests), same_class-is class (msg_class m) z)
       go true true false x y z is = absurd (some is)
       go true false e x y z is = absurd (some is)
       go false d e x y z is = absurd (some is)

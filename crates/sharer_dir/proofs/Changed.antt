@@ -6,8 +6,9 @@ use Rattle.op_model.specs.Nodes.{Nodes, none, listed, enlist, unlist}
 use Rattle.link_store.specs.Pools.{Chain, Pool, chain_of, with_chain, after_put, after_pop, after_unlink, first_node, link_with, without, has_node, IsPartition}
 use Rattle.dir_header.specs.Sharers.{Directory, with_list}
 use Rattle.dir_header.specs.Plain.{PlainView, plain_directory}
+use Rattle.dir_header.proofs.Directories.{unlist-none}
 use Rattle.sharer_dir.specs.Linked.{LinkedView, head_at, set_at, Stands, IsLinkedDir, is_head}
-use Rattle.sharer_dir.proofs.Standing.{stands_head, stands_link, stands_next, stands_without, none_listed, unlist-absent, listed_by_link}
+use Rattle.sharer_dir.proofs.Standing.{stands_head, stands_link, stands_next, stands_without, none_listed, listed_by_link}
 use Rattle.sharer_dir.proofs.Directories.{line_kept}
 
 -- the sets that a plain directory has after one of them changed
@@ -78,7 +79,7 @@ link_removed dir m node head None is l at other none partition =
     line_kept dir (record { heads = dir.heads; pool = dir.pool; sets = set dir.sets m (unlist (set_at dir m) node) }) m is
     refl refl (length-set dir.sets m (unlist (set_at dir m) node))
     (λ k apart. (refl, refl, set_other dir.sets m k (unlist (set_at dir m) node) apart))
-    (rw (set_same dir.sets m (unlist (set_at dir m) node) l, unlist-absent (set_at dir m) node (absent head at other)) (is.stands m l))
+    (rw (set_same dir.sets m (unlist (set_at dir m) node) l, unlist-none (set_at dir m) node (absent head at other)) (is.stands m l))
     partition
   where
     no_link : has_node (chain_of dir.pool m) node ≡ false

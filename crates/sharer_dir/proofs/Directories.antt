@@ -1,6 +1,6 @@
 -- The links that all lists hold are those of the chains, so that the free links are those of the free list; and where one line has
 -- another list, the directory is kept if that list stands for its set.
-use Rattle.std.specs.Prelude.{◌≡◌, ℕ, zero, suc, ◌-◌, ◌<◌, ◌≢◌, ◌==◌, Bool, true, false, cond, List, [], ◌∷◌, length, sum_by, Option, Some, None}
+use Rattle.std.specs.Prelude.{◌≡◌, ℕ, suc, ◌-◌, ◌<◌, ◌≢◌, ◌==◌, Bool, true, false, List, [], ◌∷◌, length, sum_by, Option, Some, None}
 use Rattle.std.proofs.Common.{refl, sym, ap, subst, ◌∙◌, arith, get_or}
 use Rattle.std.proofs.lemmas.Bool.Decides.{nat_tests}
 use Rattle.std.proofs.lemmas.List.Sums.{sum_by-cons}
@@ -8,14 +8,8 @@ use Rattle.std.proofs.lemmas.List.{length-map}
 use Rattle.op_model.specs.Nodes.{Nodes, none, listed, count}
 use Rattle.link_store.specs.Pools.{Chain, chain_of, nodes_of, IsPartition}
 use Rattle.dir_header.specs.Sharers.{Linked, IsDirectory, list_at, held_by, held_in, free_in}
+use Rattle.dir_header.proofs.Directories.{held-linked}
 use Rattle.sharer_dir.specs.Linked.{LinkedView, head_at, set_at, Stands, IsLinkedDir, linked_directory}
-
-held-linked : (list : Nodes) → held_by Linked list ≡ count list - 1
-held-linked list = by_count (count list)
-  where
-    by_count : (n : ℕ) → (cond (n == 0) 0 (Prim.Native.Nat.pred n)) ≡ n - 1
-    by_count zero = refl
-    by_count (suc n) = let off : (suc n == 0) ≡ false = grind (arith, nat_tests) in let less : Prim.Native.Nat.pred (suc n) ≡ n = refl in ap (λ b. cond b 0 (Prim.Native.Nat.pred (suc n))) off ∙ less ∙ omega arith
 
 -- a list holds as many links as its chain has
 pub held_chain : (head : Option ℕ) (chain : Chain) (set : Nodes) → Stands head chain set → held_by Linked set ≡ length chain

@@ -2,7 +2,8 @@
 use Rattle.std.specs.Prelude.{◌≡◌, ℕ, ◌+◌, ◌-◌, ◌≤◌, ◌==◌, ◌||◌, ◌&&◌, not, Bool, true, false, cond, [], ◌∷◌, length, Option, Some, None}
 use Rattle.std.proofs.Common.{refl, sym, ap, ◌∙◌, arith}
 use Rattle.std.proofs.lemmas.Bool.Decides.{nat_tests}
-use Rattle.op_model.specs.Nodes.{Nodes, none, listed, enlist, unlist, count, listed-none, listed-enlist, listed-unlist, count-none, count-enlist, count-unlist, same_nodes}
+use Rattle.op_model.specs.Nodes.{Nodes, none, listed, enlist, unlist, count, listed-none, listed-enlist, listed-unlist, count-none, count-enlist, count-unlist}
+use Rattle.op_model.proofs.Plain.{eqb-swap}
 use Rattle.link_store.specs.Pools.{Chain, times_in, nodes_of, has_node, without, first_node}
 use Rattle.dir_header.specs.Sharers.{only_this}
 use Rattle.sharer_dir.specs.Linked.{Stands, nodes_in}
@@ -19,15 +20,12 @@ more_once true true t u e f apart = let g = apart refl in cc
 more_once true false t u e f apart = omega arith
 more_once false b t u e f apart = e ∙ (let z : 0 + t ≡ t = omega arith in z ∙ f)
 
-same_test : (a b : ℕ) → (a == b) ≡ (b == a)
-same_test a b = grind (arith, nat_tests)
-
 -- with one node more, which wasn't listed
 pub stands_more : (head head' : Option ℕ) (chain chain' : Chain) (set : Nodes) (node : ℕ) → Stands head chain set → listed set node ≡ false → (head' ≡ None → ⊥) → ((q : ℕ) → times_in q (nodes_in head' chain') ≡ cond (node == q) 1 0 + times_in q (nodes_in head chain)) → length (nodes_in head' chain') ≡ length (nodes_in head chain) + 1 → Stands head' chain' (enlist set node)
 stands_more head head' chain chain' set node is absent some once many = record {
   empty = λ e. absurd (some e);
   once = λ q. more_once (node == q) (listed set q) (times_in q (nodes_in head chain)) (times_in q (nodes_in head' chain')) (once q) (is.once q) (λ same. let e : node ≡ q = grind (arith, nat_tests, same) in rw (← e) absent)
-      ∙ ap (λ b. cond b 1 0) (ap (λ b. b || listed set q) (same_test node q) ∙ sym (listed-enlist set node q));
+      ∙ ap (λ b. cond b 1 0) (ap (λ b. b || listed set q) (eqb-swap node q) ∙ sym (listed-enlist set node q));
   many = let e = is.many in let c : length (nodes_in head' chain') ≡ count set + 1 = omega (arith, e, many) in c ∙ sym (count-enlist set node ∙ rw absent refl);
 }
 
@@ -41,17 +39,9 @@ pub stands_fewer : (head head' : Option ℕ) (chain chain' : Chain) (set : Nodes
 stands_fewer head head' chain chain' set node is there empty once many = record {
   empty = empty;
   once = λ q. fewer_once (node == q) (listed set q) (times_in q (nodes_in head chain)) (times_in q (nodes_in head' chain')) (once q) (is.once q) (λ same. let e : node ≡ q = grind (arith, nat_tests, same) in rw (← e) there)
-      ∙ ap (λ b. cond b 1 0) (ap (λ b. not b && listed set q) (same_test node q) ∙ sym (listed-unlist set node q));
+      ∙ ap (λ b. cond b 1 0) (ap (λ b. not b && listed set q) (eqb-swap node q) ∙ sym (listed-unlist set node q));
   many = let e = is.many in let c : count set - 1 ≡ length (nodes_in head' chain') = omega (arith, e, many) in sym c ∙ sym (count-unlist set node ∙ rw there refl);
 }
-
--- a node that isn't listed can't be taken off
-pub unlist-absent : (set : Nodes) (node : ℕ) → listed set node ≡ false → unlist set node ≡ set
-unlist-absent set node absent = same_nodes (unlist set node) set (λ q. listed-unlist set node q ∙ by q (q == node) refl)
-  where
-    by : (q : ℕ) (b : Bool) → (q == node) ≡ b → (not b && listed set q) ≡ listed set q
-    by q true e = let same : q ≡ node = grind (arith, nat_tests, e) in sym (ap (listed set) same ∙ absent)
-    by q false e = refl
 
 -- a node that is added becomes the head of an empty list
 pub stands_head : (chain : Chain) (set : Nodes) (node : ℕ) → Stands None chain set → listed set node ≡ false → Stands (Some node) chain (enlist set node)

@@ -5,6 +5,7 @@ use Rattle.op_model.specs.Nodes.{Nodes, none, listed, enlist, unlist, count}
 use Rattle.dir_header.specs.Codes.{nodes_code}
 use Rattle.dir_header.specs.Sharers.{Directory, Linked, only_this}
 use Rattle.link_store.specs.Pools.{Chain, Pool, IsPartition, times_in, nodes_of, links_of, chain_of, with_chain, first_pool, first_node, after_put, after_pop, after_unlink, link_with}
+use Rattle.link_store.specs.Codes.{pool_code}
 
 -- A linked directory: the head of each line's list, the pool with the rest of the lists, and the sets that the lists stand for
 pub record LinkedView : Type 0 where
@@ -85,11 +86,6 @@ emptied (e ∷ chain) pool m = emptied chain (with_chain pool m chain (e.0 ∷ p
 -- the directory after a line's list became that of this node alone, or empty
 abbrev pub after_clear : LinkedView → ℕ → Option ℕ → LinkedView
 after_clear dir m only = record { heads = slice_set dir.heads m only; pool = emptied (chain_of dir.pool m) dir.pool m; sets = slice_set dir.sets m (only_this only) }
-
-abbrev pub pool_code : Coded Pool
-pool_code =
-    code_by (List Chain × (List ℕ × ℕ)) (coded× (coded_list (coded_list (coded× coded_ℕ coded_ℕ))) (coded× (coded_list coded_ℕ) coded_ℕ))
-    (λ p. (p.chains, (p.free, p.count))) (λ p. record { chains = p.0; free = p.1.0; count = p.1.1 }) (λ _. refl)
 
 abbrev pub linked_code : Coded LinkedView
 linked_code =

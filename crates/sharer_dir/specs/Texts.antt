@@ -1,10 +1,7 @@
 -- The text of a line's list and that of the free list, each without a line's end.
-use Rattle.std.specs.Prelude.{ℕ, ◌++◌, List, codes, decimal, flat_map, Option, Some, None}
+use Rattle.std.specs.Prelude.{ℕ, ◌++◌, List, codes, decimal, flat_map, Option}
 use Rattle.link_store.specs.Pools.{Chain}
-
-abbrev pub head_text : Option ℕ → List ℕ
-head_text None = codes "-"
-head_text (Some head) = decimal head
+pub use Rattle.decimal_text.specs.Text.{decimal_or_dash as head_text}
 
 -- a link with its node, and a space before it
 abbrev pub link_text : ℕ × ℕ → List ℕ

@@ -9,6 +9,7 @@ ghost use Rattle.sharer_dir.specs.Linked.{IsLinkedDir, linked_directory, first_l
 
 use crate::text::{put_free, put_list};
 use dir_header::{Listed, NoRoom, PlainDir, Sharers};
+use line_map::MOST_NODES;
 use link_store::Links;
 use op_model::NoMemory;
 use std::alloc::Global;
@@ -48,7 +49,7 @@ impl LinkedDir {
         Ok(LinkedDir {
             heads,
             links: Links::new(alloc, lines, links)?,
-            sets: PlainDir::new(alloc, lines, 64, links)?,
+            sets: PlainDir::new(alloc, lines, MOST_NODES as u32, links)?,
         })
     }
 
@@ -86,10 +87,12 @@ impl Sharers for LinkedDir {
 
     ghost link_line = { line_with };
 
+    ghost is_sound = { IsLinkedDir };
+
     fn lines(&self) -> u32
         ensures value { result ≡ length self.now.sets }
         ensures kept { IsDirectory (linked_directory self.now) }
-        ensures linked { IsLinkedDir self.now }
+        ensures sound { IsLinkedDir self.now }
     {
         self.sets.lines()
     }

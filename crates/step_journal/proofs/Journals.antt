@@ -11,22 +11,12 @@ use Rattle.op_model.specs.declared.events.Numbered.{Numbered}
 use Rattle.op_model.specs.Run.Weight.{total}
 use Rattle.op_model.specs.Parts.Part.{Part}
 use Rattle.op_model.specs.Parts.Journal.{drawn, Agrees, IsJournal}
+use Rattle.op_model.proofs.Plain.{total-alike, total-add, total-zero}
 use Rattle.step_journal.specs.Logs.{LogList, all_entries, all_drawn, entries_of, AreNumbered, AreLogsOf}
 use Rattle.one_journal.specs.SameLogs.{IsMerged}
-use Rattle.one_journal.proofs.One.{total-alike}
 use Rattle.step_journal.proofs.Tickets.{has, has_own, drawn_cons, in_log, one_or_none, some_below}
 
 -- ---- sums over the numbers below a bound
-
-total_add : (f g : ℕ → ℕ) (n : ℕ) → total (λ i. f i + g i) n ≡ total f n + total g n
-unfolding total
-total_add f g zero = refl
-total_add f g (suc n) = let rest = total_add f g n in omega arith
-
-total_none : (n : ℕ) → total (λ i. 0) n ≡ 0
-unfolding total
-total_none zero = refl
-total_none (suc n) = let rest = total_none n in omega arith
 
 abbrev is_this : ℕ → ℕ → ℕ
 is_this k i = cond (k == i) 1 0
@@ -64,25 +54,25 @@ all_below (suc m) n le =
 -- ---- how often tickets are drawn
 
 drawn_in : (n : ℕ) (entries : List Numbered) → All (λ (e : Numbered). e.ticket < n) entries → total (λ t. drawn t entries) n ≡ length entries
-drawn_in n [] within = total_none n
+drawn_in n [] within = total-zero n
 drawn_in n (e ∷ entries) within =
     let here = total_one e.ticket n (All-head (λ (x : Numbered). x.ticket < n) e entries within) in
     let rest = drawn_in n entries (All-tail (λ (x : Numbered). x.ticket < n) e entries within) in
     let each = total-alike (λ t. is_this e.ticket t + drawn t entries) (λ t. drawn t (e ∷ entries)) n (λ t lt. drawn_cons t e entries) in
-    let both = total_add (is_this e.ticket) (λ t. drawn t entries) n in
+    let both = total-add (is_this e.ticket) (λ t. drawn t entries) n in
     omega arith
 
 abbrev AreWithin : ℕ → List LogList → Type 0
 AreWithin n logs = All (λ (log : LogList). All (λ (e : Numbered). e.ticket < n) log.entries) logs
 
 drawn_in_all : (n : ℕ) (logs : List LogList) → AreWithin n logs → total (λ t. all_drawn t logs) n ≡ all_entries logs
-drawn_in_all n [] within = total_none n
+drawn_in_all n [] within = total-zero n
 drawn_in_all n (log ∷ logs) within =
     let P = (λ (l : LogList). All (λ (e : Numbered). e.ticket < n) l.entries) in
     let here = drawn_in n log.entries (All-head P log logs within) in
     let rest = drawn_in_all n logs (All-tail P log logs within) in
     let each = total-alike (λ t. drawn t log.entries + all_drawn t logs) (λ t. all_drawn t (log ∷ logs)) n (λ t lt. sum_by-cons (in_log t) log logs) in
-    let both = total_add (λ t. drawn t log.entries) (λ t. all_drawn t logs) n in
+    let both = total-add (λ t. drawn t log.entries) (λ t. all_drawn t logs) n in
     let long = sum_by-cons (λ (l : LogList). length l.entries) log logs in
     omega arith
 

@@ -11,6 +11,7 @@ mod trace;
 
 pub use by_node::programs;
 pub use fault::{TraceCause, TraceError};
+pub use forms::{named, of_words, word_in};
 pub use printing::{every_journal_text, print_trace};
 pub use random::generate;
 pub use reading::{MOST_OPS, read_trace};

@@ -207,6 +207,11 @@ fn call_in(rt: &impl Abort, home: &mut HomeSide<LinkedDir>)
         (home.victim_at(0), home.victim_at(1), home.victim_at(2)),
         (Some(0), Some(1), None)
     );
+    let mut victims = home.victims();
+    assert_eq!(rt;
+        (victims.next(), victims.next(), victims.next()),
+        (Some(0), Some(1), None)
+    );
     assert_eq!(rt; home.header(0).wait, Wait::Idle);
     assert_eq!(rt;
         home.make_pending(0, Wait::Invalidate(Grantee::Nobody)),

@@ -7,12 +7,13 @@ use Rattle.op_model.specs.MessageWords.{words_behind}
 use Rattle.op_model.specs.Shares.{Share, header_of, line_share, room_of, header_in}
 use Rattle.op_model.specs.Events.Node.{TakeFrom, asks_victim, fits_victim, local, permit}
 use Rattle.op_model.specs.Tables.Processor.{call_in, reclaim}
+use Rattle.op_model.proofs.Shares.{refused-for}
 use Rattle.dir_header.specs.HomeSides.{header_at, room_in}
 use Rattle.node_share.specs.Parts.{AreHeaders, DoesRow, HasRoom}
 use Rattle.node_share.specs.Effects.{Acts}
 use Rattle.node_share.proofs.Homes.{home-headers, on-ok}
 use Rattle.magic_node.specs.Nodes.{node_share}
-use Rattle.magic_node.proofs.Taken.{takes, refuses, allowed-none, allowed-victim, fits-here, takes-victim, room-left, headers-stay, calls-victim, is-done}
+use Rattle.magic_node.proofs.Taken.{takes, allowed-none, allowed-victim, fits-here, takes-victim, room-left, headers-stay, calls-victim, is-done}
 use Rattle.magic_node.proofs.taking.take_on.Goals as goal
 
 pub returns-in_err-can_take_on-clause-refused : goal.returns-in_err-can_take_on-clause-refused
@@ -20,7 +21,7 @@ returns-in_err-can_take_on-clause-refused g c =
     let home = c.args.home.now in
     let share = node_share c.args.proc.now c.args.cache.now home in
     let p = err_from_is_err_and c.from_residual.result c.from_residual.ensures.1 in
-    rw (p.1, p.2) (refuses (local home.charge home.sizes c.args.number c.args.proc.now.program share (TakeFrom c.args.src c.args.msg.now c.args.victim)) c.in_err-can_take_on.field-0.0 c.in_err-can_take_on.ensures)
+    rw (p.1, p.2) (refused-for (local home.charge home.sizes c.args.number c.args.proc.now.program share (TakeFrom c.args.src c.args.msg.now c.args.victim)) c.in_err-can_take_on.field-0.0 c.in_err-can_take_on.ensures)
 
 pub begin-requires-clause-line : goal.begin-requires-clause-line
 begin-requires-clause-line g c =

@@ -3,15 +3,16 @@ use Rattle.std.proofs.Common.{not, None, refl, ap, ◌∙◌}
 use Rattle.std.proofs.lemmas.Result.{err_from_is_err_and}
 use Rattle.op_model.specs.Lines.{LineShare, Absent}
 use Rattle.op_model.specs.Tables.Processor.{reclaim}
+use Rattle.op_model.proofs.Shares.{refused-for}
 use Rattle.dir_header.specs.HomeSides.{header_at, room_in}
 use Rattle.node_share.proofs.Homes.{puts-read}
-use Rattle.reclaim.proofs.Called.{refuses, allows, begun, called, call-does}
+use Rattle.reclaim.proofs.Called.{allows, begun, called, call-does}
 use Rattle.reclaim.proofs.calling.begin.Goals as goal
 
 pub returns-in_err-can_begin-clause-allowed : goal.returns-in_err-can_begin-clause-allowed
 returns-in_err-can_begin-clause-allowed g c =
     let p = err_from_is_err_and c.from_residual.result c.from_residual.ensures.1 in
-    rw (p.1, p.2) (λ (share : LineShare) is. refuses (reclaim (room_in c.args.home.now) share) c.in_err-can_begin.field-0.0 (c.in_err-can_begin.ensures share is))
+    rw (p.1, p.2) (λ (share : LineShare) is. refused-for (reclaim (room_in c.args.home.now) share) c.in_err-can_begin.field-0.0 (c.in_err-can_begin.ensures share is))
 
 pub make_pending-requires-clause-idle : goal.make_pending-requires-clause-idle
 make_pending-requires-clause-idle g c =

@@ -1,20 +1,12 @@
 -- A hint counts where the line is idle and clean.
-use Rattle.std.proofs.Common.{◌≡◌, ◌-◌, true, false, cond, ◌&&◌, refl, sym, ap, ◌∙◌}
-use Rattle.op_model.specs.declared.state.Wait.{Wait}
-use Rattle.op_model.specs.declared.state.Wait.TheVariants.{Idle, Invalidate, ForwardGet, ForwardGetX}
+use Rattle.std.proofs.Common.{◌≡◌, ◌-◌, true, false, cond, ◌&&◌, sym, ap, ◌∙◌}
 use Rattle.op_model.specs.Nodes.{listed}
 use Rattle.op_model.specs.Lines.{is_idle}
-use Rattle.op_model.specs.Tables.Remote.{is_invalidate}
+use Rattle.op_model.proofs.Shares.{idle-calm}
 use Rattle.dir_header.specs.HomeSides.{header_at}
 use Rattle.node_share.proofs.Homes.{home-headers}
 use Rattle.repl_hints.proofs.Leaves.{rpl-waits, rpl-dirty, rpl-clean}
 use Rattle.repl_hints.proofs.hints.on_rpl.Goals as goal
-
-calm : (wait : Wait) → is_idle wait ≡ true → is_invalidate wait ≡ false
-calm Idle e = refl
-calm (Invalidate g) e = cc
-calm (ForwardGet r) e = refl
-calm (ForwardGetX r) e = refl
 
 pub returns-then-not-is_idle-clause-share : goal.returns-then-not-is_idle-clause-share
 returns-then-not-is_idle-clause-share g c =
@@ -34,4 +26,4 @@ returns-clause-share g c =
     let h = header_at home c.args.line in
     let idle : is_idle (header_at home c.args.line).wait ≡ true = ap (λ h. is_idle h.wait) (sym c.header-header.ensures) ∙ sym c.is_idle.ensures ∙ c.if-not-is_idle.false in
     rpl-clean home c.args.line c.requires.line c.args.src c.unlist.new.self idle (ap (λ h. h.dirty) (sym c.header-header.ensures) ∙ c.if-header.false) c.unlist.ensures.home
-    (ap (λ b. cond (b && listed h.list c.args.src) (h.acks - 1) h.acks) (calm h.wait idle))
+    (ap (λ b. cond (b && listed h.list c.args.src) (h.acks - 1) h.acks) (idle-calm h.wait idle))

@@ -5,11 +5,12 @@ use Rattle.line_map.specs.Sizes.{home_of}
 use Rattle.op_model.specs.Shares.{Share, copy_of, line_share}
 use Rattle.op_model.specs.Events.Node.{evict_line, is_silent, permit}
 use Rattle.op_model.specs.Tables.Processor.{leave_home, leave_remote}
+use Rattle.op_model.proofs.Shares.{refused-for}
 use Rattle.cpu_cache.specs.Processors.{ProcView}
 use Rattle.node_share.specs.Parts.{share_of, row_at, sent, DoesRow}
 use Rattle.node_share.proofs.Rows.{at-home, is-away}
 use Rattle.node_share.proofs.Wants.{sent-none}
-use Rattle.repl_hints.proofs.Evicts.{evict-allowed, evict-away, evict-home, is-silent, refuses}
+use Rattle.repl_hints.proofs.Evicts.{evict-allowed, evict-away, evict-home, is-silent}
 use Rattle.repl_hints.proofs.Leaves.{goes-silently, home-sends}
 use Rattle.repl_hints.proofs.leaving.evict.Goals as goal
 
@@ -17,7 +18,7 @@ pub returns-in_err-can_evict-clause-refused : goal.returns-in_err-can_evict-clau
 returns-in_err-can_evict-clause-refused g c =
     let home = c.args.home.now in
     let p = err_from_is_err_and c.from_residual.result c.from_residual.ensures.1 in
-    rw (p.1, p.2) (λ (proc : ProcView). refuses (evict_line home.sizes c.args.node (share_of proc c.args.cache.now.copies home.headers) c.args.line c.args.kind c.args.room) c.in_err-can_evict.field-0.0
+    rw (p.1, p.2) (λ (proc : ProcView). refused-for (evict_line home.sizes c.args.node (share_of proc c.args.cache.now.copies home.headers) c.args.line c.args.kind c.args.room) c.in_err-can_evict.field-0.0
     (c.in_err-can_evict.ensures proc home.headers ∙ ap (λ z. permit (evict_line z c.args.node (share_of proc c.args.cache.now.copies home.headers) c.args.line c.args.kind c.args.room)) c.requires.same))
 
 pub leave_home-requires-clause-held : goal.leave_home-requires-clause-held

@@ -25,6 +25,13 @@ make-requires-clause-enabled g c =
     let answers = g.F.Choice.answers c.args.picker.now in
     drawn-enabled answers c.args.seed (g.M.MachineFace.meaning c.args.m.now) (g.M.MachineFace.meaning c.loop.m) _ c.as_slice.result.now c.in-Some.event (c.as_slice.ensures.value ∙ c.in_ok-list_candidates.ensures) c.in-Some.ensures.drawn
 
+pub returns-in_err-list_candidates-clause-err : goal.returns-in_err-list_candidates-clause-err
+returns-in_err-list_candidates-clause-err g c =
+    let answers = g.F.Choice.answers c.args.picker.now in
+    let first = g.M.MachineFace.meaning c.args.m.now in
+    let p = err_from_is_err_and c.from_residual.result c.from_residual.ensures.1 in
+    rw p.1 (has-drawn answers c.args.seed first (g.M.MachineFace.meaning c.loop.m) c.loop.counter c.loop.generator c.args.random c.loop.invariant.way (omega (arith, c.loop-test.true)))
+
 pub returns-in_err-make-clause-err : goal.returns-in_err-make-clause-err
 returns-in_err-make-clause-err g c =
     let answers = g.F.Choice.answers c.args.picker.now in

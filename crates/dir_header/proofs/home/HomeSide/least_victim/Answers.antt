@@ -1,6 +1,6 @@
 -- The least line of the set that is kept beside the headers.
 use Rattle.std.proofs.Common.{◌+◌, ◌*◌, None, Some, ap, ◌∙◌, arith}
-use Rattle.dir_header.proofs.Victims.{first_fits, least-returns}
+use Rattle.dir_header.proofs.LinkedLines.{first_fits, least-returns}
 use Rattle.dir_header.proofs.home.HomeSide.least_victim.Goals as goal
 
 pub returns-in_err-m : goal.returns-in_err-m

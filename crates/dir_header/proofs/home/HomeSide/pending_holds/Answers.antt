@@ -1,5 +1,5 @@
 -- The count that is kept beside the headers is above 0 where such a line is.
-use Rattle.dir_header.proofs.Victims.{holds-returns}
+use Rattle.dir_header.proofs.LinkedLines.{holds-returns}
 use Rattle.dir_header.proofs.home.HomeSide.pending_holds.Goals as goal
 
 pub returns : goal.returns

@@ -1,24 +1,27 @@
--- The line at that place of the set that is kept beside the headers.
-use Rattle.std.proofs.Common.{◌+◌, ◌*◌, None, Some, ap, ◌∙◌, arith}
-use Rattle.dir_header.proofs.Victims.{first_fits, victim-returns}
+-- After as many of the lines are handed out as the place says, the next one is the one at that place.
+use Rattle.std.proofs.Common.{ℕ, List, sym, ap, ◌∙◌, arith}
+use Rattle.std.specs.Prelude.{filter, slice_get}
+use Rattle.op_model.specs.Run.Seeded.{lines_of}
+use Rattle.dir_header.specs.HomeSides.{is_victim}
+use Rattle.dir_header.proofs.Numbers.{past-end, element-at, first-at}
 use Rattle.dir_header.proofs.home.HomeSide.victim_at.Goals as goal
 
-pub returns-in_err-m : goal.returns-in_err-m
-returns-in_err-m g c =
-    let i = c.self.inside in
-    c.from_residual.ensures ∙ rw (← c.self.view_is) (victim-returns (g.D.Sharers.directory i.dir) i.cfg i.node i.headers.items i.memory.items i.dir i.budget i.holders c.self.invariant c.args.i None c.in_err-m.ensures.value)
+pub loop-init : goal.loop-init
+loop-init g c = sym c.victims-victims.ensures
 
-pub overflow_mul-result : goal.overflow_mul-result
-overflow_mul-result g c =
-    let i = c.self.inside in
-    let fits = first_fits (g.D.Sharers.directory i.dir) i.cfg i.node i.headers.items i.memory.items i.dir i.budget i.holders c.self.invariant in let lines = ap (λ n. i.node * n) c.lines.ensures.value in omega (arith, fits, lines)
+pub loop-preserved : goal.loop-preserved
+loop-preserved g c =
+    let home = c.args.self.now in
+    (element-at (filter (is_victim home) (lines_of home.sizes home.node)) c.loop.counter c.loop.victims c.next.new.self c.in_ok-next.field-0 c.loop.invariant c.in_ok-next.ensures).1
 
-pub overflow_add-result : goal.overflow_add-result
-overflow_add-result g c =
-    let i = c.self.inside in
-    let fits = first_fits (g.D.Sharers.directory i.dir) i.cfg i.node i.headers.items i.memory.items i.dir i.budget i.holders c.self.invariant in let lines = ap (λ n. i.node * n) c.lines.ensures.value in omega (arith, fits, lines, c.in_ok-m.ensures.below)
+pub returns-in_err-next : goal.returns-in_err-next
+returns-in_err-next g c =
+    let home = c.args.self.now in
+    c.from_residual.ensures ∙ past-end (filter (is_victim home) (lines_of home.sizes home.node)) c.loop.counter c.args.i c.loop.victims c.loop.invariant c.in_err-next.ensures (let t = c.loop-test.true in omega arith)
 
 pub returns : goal.returns
 returns g c =
-    let i = c.self.inside in
-    ap (λ n. Some (i.node * n + c.in_ok-m.m)) c.lines.ensures.value ∙ rw (← c.self.view_is) (victim-returns (g.D.Sharers.directory i.dir) i.cfg i.node i.headers.items i.memory.items i.dir i.budget i.holders c.self.invariant c.args.i (Some c.in_ok-m.m) c.in_ok-m.ensures.value)
+    let home = c.args.self.now in
+    let lines : List ℕ = filter (is_victim home) (lines_of home.sizes home.node) in
+    first-at lines c.loop.counter c.loop.victims (λ _. c.next-2.new.self) c.next-2.result c.loop.invariant c.next-2.ensures
+    ∙ ap (slice_get lines) (omega (arith, c.loop.auto.counter-end, c.loop-test.false))

@@ -11,4 +11,4 @@ returns g c =
     let lanes = g.Q.Lanes.meaning run.lanes in
     let dirs = map (dir_of {D = g.row.D.Denot}) run.nodes.items in
     let journal = run.journal in
-    λ past ran. (λ test. view-done run.cfg faces lanes journal.events.items journal.served.items journal.counts journal.left run.out dirs c.args.self.now c.self.invariant c.self.view_is (zero_of journal.left test) past ran, λ all. of_zero journal.left (view-undone run.cfg faces lanes journal.events.items journal.served.items journal.counts journal.left run.out dirs c.args.self.now c.self.invariant c.self.view_is past ran all))
+    λ past ran. (λ test. view-done run.cfg faces lanes journal.events.items journal.served.items journal.counts journal.left run.out dirs c.args.self.now c.self.invariant.0 c.self.view_is (zero_of journal.left test) past ran, λ all. of_zero journal.left (view-undone run.cfg faces lanes journal.events.items journal.served.items journal.counts journal.left run.out dirs c.args.self.now c.self.invariant.0 c.self.view_is past ran all))

@@ -20,5 +20,5 @@ returns-clause-next g c =
     let new : MachineView g.row.D.Denot = view_by after.cfg (map face after.nodes.items) after.journal.events.items (map (dir_of {D = g.row.D.Denot}) after.nodes.items) in
     let of = subst (λ (v : MachineView g.row.D.Denot). IsEventOf v.sizes c.args.event) (sym c.self.view_is) c.requires in
     λ past ran. IfOk-weaker c.apply.result (λ _. after.journal.events.items ≡ run.journal.events.items ++ c.args.event ∷ []) (λ _. IsNext c.args.self.now new past c.args.event)
-    (λ _ more. view-next run.cfg faces lanes run.journal.events.items run.journal.served.items run.journal.counts run.journal.left run.out dirs c.args.self.now c.self.invariant c.self.view_is
+    (λ _ more. view-next run.cfg faces lanes run.journal.events.items run.journal.served.items run.journal.counts run.journal.left run.out dirs c.args.self.now c.self.invariant.0 c.self.view_is
     new c.args.event _ made.cfg made.programs made.charge more made.kept.ran of past ran) made.ok

@@ -11,4 +11,4 @@ returns g c =
     let lanes = g.Q.Lanes.meaning run.lanes in
     let dirs = map (dir_of {D = g.row.D.Denot}) run.nodes.items in
     let journal = run.journal in
-    λ count at. view-count run.cfg faces lanes journal.events.items journal.served.items journal.counts journal.left run.out dirs c.args.self.now c.self.invariant c.self.view_is c.args.i count at
+    λ count at. view-count run.cfg faces lanes journal.events.items journal.served.items journal.counts journal.left run.out dirs c.args.self.now c.self.invariant.0 c.self.view_is c.args.i count at

@@ -19,7 +19,7 @@ returns-clause-history g c =
     let dirs = map (dir_of {D = g.row.D.Denot}) run.nodes.items in
     let journal = run.journal in
     IfOk-weaker c.completed.result (λ entries. (sizes : Sizes) (lane : Lanes) → entries.items ≡ kept_of (state_of sizes faces lane) c.as_slice.result.now) (λ entries. (past : Past) → run_of c.args.self.now ≡ Some past → entries.items ≡ history past)
-    (λ entries kept. view-history run.cfg faces lanes journal.events.items journal.served.items journal.counts journal.left run.out dirs c.args.self.now c.self.invariant c.self.view_is entries.items
+    (λ entries kept. view-history run.cfg faces lanes journal.events.items journal.served.items journal.counts journal.left run.out dirs c.args.self.now c.self.invariant.0 c.self.view_is entries.items
     (kept run.cfg lanes.lane ∙ ap (kept_of (state_of run.cfg faces lanes.lane)) c.as_slice.ensures.value)) c.completed.ensures
 
 pub returns-clause-ran : goal.returns-clause-ran
@@ -29,7 +29,7 @@ returns-clause-ran g c =
     let lanes = g.Q.Lanes.meaning run.lanes in
     let dirs = map (dir_of {D = g.row.D.Denot}) run.nodes.items in
     let journal = run.journal in
-    (past_in run.cfg faces lanes journal.events.items journal.served.items journal.counts journal.left run.out dirs c.args.self.now c.self.invariant c.self.view_is, view-ran run.cfg faces lanes journal.events.items journal.served.items journal.counts journal.left run.out dirs c.args.self.now c.self.invariant c.self.view_is)
+    (past_in run.cfg faces lanes journal.events.items journal.served.items journal.counts journal.left run.out dirs c.args.self.now c.self.invariant.0 c.self.view_is, view-ran run.cfg faces lanes journal.events.items journal.served.items journal.counts journal.left run.out dirs c.args.self.now c.self.invariant.0 c.self.view_is)
 
 pub returns-clause-one : goal.returns-clause-one
 returns-clause-one g c =
@@ -38,4 +38,4 @@ returns-clause-one g c =
     let lanes = g.Q.Lanes.meaning run.lanes in
     let dirs = map (dir_of {D = g.row.D.Denot}) run.nodes.items in
     let journal = run.journal in
-    λ past ran. view-one run.cfg faces lanes journal.events.items journal.served.items journal.counts journal.left run.out dirs c.args.self.now c.self.invariant c.self.view_is past ran
+    λ past ran. view-one run.cfg faces lanes journal.events.items journal.served.items journal.counts journal.left run.out dirs c.args.self.now c.self.invariant.0 c.self.view_is past ran

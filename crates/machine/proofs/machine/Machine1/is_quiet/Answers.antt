@@ -11,4 +11,4 @@ returns g c =
     let lanes = g.Q.Lanes.meaning run.lanes in
     let dirs = map (dir_of {D = g.row.D.Denot}) run.nodes.items in
     let journal = run.journal in
-    λ past ran. (λ test. view-rests run.cfg faces lanes journal.events.items journal.served.items journal.counts journal.left run.out dirs c.args.self.now c.self.invariant c.self.view_is (c.first_busy.ensures.none.0 (c.is_none.ensures ∙ ap not test)) past ran, λ rest. true_of c.is_none.result (sym c.is_none.ensures ∙ c.first_busy.ensures.none.1 (view-empty run.cfg faces lanes journal.events.items journal.served.items journal.counts journal.left run.out dirs c.args.self.now c.self.invariant c.self.view_is past ran rest)))
+    λ past ran. (λ test. view-rests run.cfg faces lanes journal.events.items journal.served.items journal.counts journal.left run.out dirs c.args.self.now c.self.invariant.0 c.self.view_is (c.first_busy.ensures.none.0 (c.is_none.ensures ∙ ap not test)) past ran, λ rest. true_of c.is_none.result (sym c.is_none.ensures ∙ c.first_busy.ensures.none.1 (view-empty run.cfg faces lanes journal.events.items journal.served.items journal.counts journal.left run.out dirs c.args.self.now c.self.invariant.0 c.self.view_is past ran rest)))

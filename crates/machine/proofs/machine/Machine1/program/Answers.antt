@@ -15,5 +15,5 @@ returns g c =
     let face = face_of {D = g.row.D.Denot} in
     let faces = map face run.nodes.items in
     let below : c.args.n < run.cfg.nodes = subst (λ (v : MachineView g.row.D.Denot). c.args.n < v.sizes.nodes) (sym c.self.view_is) c.requires in
-    let there = node-there run.cfg (charge_in faces) face run.nodes.items c.args.n c.index.result.now c.index.result.now c.self.invariant.nodes below c.index.ensures in
+    let there = node-there run.cfg (charge_in faces) face run.nodes.items c.args.n c.index.result.now c.index.result.now c.self.invariant.0.nodes below c.index.ensures in
     c.program.ensures ∙ ap (λ (p : ProcView). p.program) c.proc.ensures ∙ sym (programs_of-at faces c.args.n (face c.index.result.now) there) ∙ ap (λ (v : MachineView g.row.D.Denot). programs_of v.programs c.args.n) c.self.view_is

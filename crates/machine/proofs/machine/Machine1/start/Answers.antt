@@ -16,8 +16,9 @@ invariant_of-result g c =
     let left = c.count_ops-left.ensures ∙ ap (sum_by length) c.deref.ensures.value in
     let out = c.in_ok-out.ensures ∙ ap (λ n. record { list = []; room = n + 1 }) c.nodes.ensures.value in
     let kept = start-kept cfg c.args.programs.items (map g.D.Sharers.directory c.args.dirs.items) faces lanes c.count_ops-left.result c.in_ok-out.out sizes_are c.requires.programs c.in_ok-nodes.ensures.faces c.requires.lanes left out in
-    subst (λ es. IsKept cfg faces lanes es c.new-3.result.items (replicate 27 0) c.count_ops-left.result c.in_ok-out.out) (sym c.new-2.ensures.items)
-    (subst (λ es. IsKept cfg faces lanes [] es (replicate 27 0) c.count_ops-left.result c.in_ok-out.out) (sym c.new-3.ensures.items) kept)
+    let events = subst (λ es. IsKept cfg faces lanes es c.new-3.result.items (replicate 27 0) c.count_ops-left.result c.in_ok-out.out) (sym c.new-2.ensures.items)
+    (subst (λ es. IsKept cfg faces lanes [] es (replicate 27 0) c.count_ops-left.result c.in_ok-out.out) (sym c.new-3.ensures.items) kept) in
+    (events, c.in_ok-nodes.ensures.sound)
 
 pub returns : goal.returns
 returns g c =

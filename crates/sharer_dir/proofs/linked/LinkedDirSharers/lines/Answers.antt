@@ -6,5 +6,5 @@ pub returns-clause-kept : goal.returns-clause-kept
 returns-clause-kept c =
     rw (← c.self.view_is) (is_directory _ c.self.invariant.linked (λ m node there. rw c.self.invariant.bound at (c.lines.ensures.kept.below m node there)))
 
-pub returns-clause-linked : goal.returns-clause-linked
-returns-clause-linked c = rw (← c.self.view_is) c.self.invariant.linked
+pub returns-clause-sound : goal.returns-clause-sound
+returns-clause-sound c = rw (← c.self.view_is) c.self.invariant.linked
