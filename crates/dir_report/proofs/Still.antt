@@ -1,6 +1,5 @@
 -- At the start each line has the first header.
 use Rattle.std.proofs.Common.{◌≡◌, ℕ, ◌*◌, cond, refl}
-use Rattle.std.specs.FinMap as fin
 use Rattle.std.specs.List.{range_with_len}
 use Rattle.line_map.specs.Sizes.{Sizes, home_of}
 use Rattle.op_model.specs.Lines.{Header, is_pending}

@@ -1,3 +1,4 @@
+pub mod Popped
 pub mod LaneNumbers
 pub mod CellWords
 pub mod RingCells

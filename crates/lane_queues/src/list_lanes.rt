@@ -150,10 +150,10 @@ impl Lanes for ListLanes {
         self.queue(src, dst, class).front()
     }
 
-    fn pop(&mut self, src: u32, dst: u32, class: Class) -> Option<Msg> {
+    fn drop_front(&mut self, src: u32, dst: u32, class: Class, _departs: bool) {
         let number = lane_number(&self.cfg, src, dst, class);
         let queue = &mut self.queues[number];
-        queue.pop()
+        queue.pop();
     }
 
     fn push(&mut self, src: u32, dst: u32, msg: Msg) -> Result<(), Full> {

@@ -1,6 +1,6 @@
 //! The body of lanes over rings of message words.
 
-ghost use Rattle.std.specs.Prelude.{◌≡◌, ◌+◌, ◌-◌, ◌^◌, ◌<◌, ◌≤◌, ◌∷◌, [], length, slice_index, slice_set, IfOk};
+ghost use Rattle.std.specs.Prelude.{◌≡◌, ◌+◌, ◌-◌, ◌^◌, ◌<◌, ◌≤◌, ◌∷◌, [], length, slice_index, slice_set, if◌then◌else◌, IfOk};
 ghost use Rattle.op_model.specs.Events.Step.{departures};
 ghost use Rattle.lane_queues.specs.LaneStates.{no_messages};
 ghost use Rattle.lane_queues.specs.Queues.{meaning_of};
@@ -45,12 +45,12 @@ fn count_in(counts: &mut [u32], pair: usize, msg: &Msg)
 }
 
 // Counts a message that leaves a lane of this pair.
-fn count_out(counts: &mut [u32], pair: usize, msg: &Msg)
+fn count_out(counts: &mut [u32], pair: usize, departs: bool)
     requires below { pair < length counts.old }
-    requires some { departures (msg.now ∷ []) ≤ slice_index counts.old pair }
-    ensures { counts.new ≡ slice_set counts.old pair (slice_index counts.old pair - departures (msg.now ∷ [])) }
+    requires some { (if departs then 1 else 0) ≤ slice_index counts.old pair }
+    ensures { counts.new ≡ slice_set counts.old pair (slice_index counts.old pair - (if departs then 1 else 0)) }
 {
-    if msg.is_departure() {
+    if departs {
         counts[pair] -= 1;
     }
 }
@@ -90,18 +90,13 @@ impl Lanes for RingLanes {
         }
     }
 
-    fn pop(&mut self, src: u32, dst: u32, class: Class) -> Option<Msg> {
+    fn drop_front(&mut self, src: u32, dst: u32, class: Class, departs: bool) {
         let cfg = self.rings.cfg();
         let number = lane_number(&cfg, src, dst, class);
-        if self.rings.len(number) == 0 {
-            return None;
-        }
-        let msg = self.rings.at(number, 0);
         self.rings.pop(number);
         let left = self.rings.len(number);
         self.busy.put(src, dst, class, left > 0);
-        count_out(&mut self.evictions, pair_number(&cfg, src, dst), &msg);
-        Some(msg)
+        count_out(&mut self.evictions, pair_number(&cfg, src, dst), departs);
     }
 
     fn push(&mut self, src: u32, dst: u32, msg: Msg) -> Result<(), Full> {

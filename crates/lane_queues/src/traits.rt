@@ -7,7 +7,7 @@ ghost use Rattle.op_model.specs.Messages.{msg_class};
 ghost use Rattle.op_model.specs.MessageWords.{IsMsgOf};
 ghost use Rattle.op_model.specs.Events.Step.{departures};
 ghost use Rattle.op_model.specs.Run.Schedules.{first_busy_in, next_busy_in};
-ghost use Rattle.lane_queues.specs.LaneStates.{LaneState, AreLanes, AreEmpty, FitsLane, capacity_of, popped, pushed};
+ghost use Rattle.lane_queues.specs.LaneStates.{LaneState, AreLanes, AreEmpty, FitsLane, HasFront, capacity_of, popped, pushed};
 ghost use Rattle.lane_queues.specs.FirstBusy.{lane_named, IsBusy};
 
 use op_model::{Class, Full, Msg};
@@ -25,6 +25,14 @@ pub trait Lanes: Drop {
         ensures fits { IfSome result (FitsLane (meaning self.now).sizes class) }
         ensures kept { AreLanes (meaning self.now) };
 
+    /// Takes the first message out of a lane that isn't empty. It isn't handed out: who saw it says whether it is a write-back or a hint.
+    fn drop_front(&mut self, src: u32, dst: u32, class: Class, departs: bool)
+        requires from { src < (meaning self.old).sizes.nodes }
+        requires to { dst < (meaning self.old).sizes.nodes }
+        requires front { HasFront ((meaning self.old).lane src dst class) departs }
+        ensures after { meaning self.new ≡ popped (meaning self.old) src dst class }
+        ensures kept { AreLanes (meaning self.new) };
+
     /// Takes the first message out of a lane. None where the lane is empty.
     fn pop(&mut self, src: u32, dst: u32, class: Class) -> Option<Msg>
         requires from { src < (meaning self.old).sizes.nodes }
@@ -32,7 +40,12 @@ pub trait Lanes: Drop {
         ensures value { result ≡ slice_get ((meaning self.old).lane src dst class) 0 }
         ensures fits { IfSome result (FitsLane (meaning self.old).sizes class) }
         ensures after { meaning self.new ≡ popped (meaning self.old) src dst class }
-        ensures kept { AreLanes (meaning self.new) };
+        ensures kept { AreLanes (meaning self.new) }
+    {
+        let msg = self.front(src, dst, class)?;
+        self.drop_front(src, dst, class, msg.is_departure());
+        Some(msg)
+    }
 
     /// Puts a message at the end of the lane of its class. Full where that lane holds as many as it may.
     fn push(&mut self, src: u32, dst: u32, msg: Msg) -> Result<(), Full>

@@ -1,6 +1,6 @@
 -- What the machine keeps, it keeps over an event.
-use Rattle.std.proofs.Common.{◌≡◌, ℕ, zero, suc, ◌+◌, ◌-◌, ◌≤◌, ◌<◌, Bool, true, false, cond, ◌==◌, List, [], ◌∷◌, ◌++◌, length, map, set, drop, refl, ap, arith, sym, subst, ◌∙◌, Some, Ok}
-use Rattle.std.specs.Prelude.{slice_index, is_some, count_by, All}
+use Rattle.std.proofs.Common.{◌≡◌, ℕ, zero, suc, ◌+◌, ◌-◌, ◌≤◌, ◌<◌, Bool, true, false, cond, ◌==◌, List, [], ◌∷◌, ◌++◌, length, map, set, drop, refl, ap, arith, sym, subst, ◌∙◌, Option, Some, Ok}
+use Rattle.std.specs.Prelude.{slice_index, count_by, All}
 use Rattle.std.proofs.lemmas.List.Sums.{count_by-le-length, sum_by-append}
 use Rattle.std.proofs.lemmas.Bool.Decides.{nat_tests}
 use Rattle.line_map.specs.Sizes.{Sizes}
@@ -14,7 +14,7 @@ use Rattle.op_model.specs.OwnPart.{IsOwnPart}
 use Rattle.op_model.specs.Shares.{Charge, Lanes, Share, want_on, program}
 use Rattle.op_model.specs.Events.Step.{Programs, Done, effect, after, to_lane}
 use Rattle.op_model.specs.Run.Runs.{Past, past_after, start, run_by, entries_of, entry_for}
-use Rattle.op_model.specs.Run.Counts.{Moment, Count, moments, all_counts, counted}
+use Rattle.op_model.specs.Run.Counts.{Moment, Count, moments, all_counts, counted, taken_by}
 use Rattle.message_range.specs.Fitting.{IsSentOf}
 use Rattle.own_part.proofs.Runs.{own_run}
 use Rattle.message_range.proofs.Places.{act-placed}
@@ -23,14 +23,14 @@ use Rattle.msg_words.specs.SendList.{SendList}
 use Rattle.machine.specs.declared.acts.Act.{Act}
 use Rattle.machine.specs.Kept.{share_or, share_in, state_of, programs_in, charge_in, left_in, AreNodes, moments_in, tally_of, no_sends, AreLanesOf, IsKept}
 use Rattle.machine.specs.Marks.{naks_in, marks_of, marked_up}
-use Rattle.machine.specs.Acts.{sent_from, taken_off, off_of, entries_after, FitsAll, IsRead, IsAct}
+use Rattle.machine.specs.Acts.{sent_from, taken_off, off_of, entry_list, entries_after, FitsAll, IsRead, IsAct}
 use Rattle.machine.proofs.Faces.{local-at, share_in-set, programs_of-at, programs_in-set, charge_in-set, nodes-set, left-set}
 use Rattle.machine.proofs.Laws.{lane-fits, length-sent, programs-are, traced, machine-trace}
 use Rattle.machine.proofs.Programs.{trace_by, program-of}
 use Rattle.machine.specs.Faces.{Face}
 use Rattle.cpu_cache.specs.Effects.{served_of}
 use Rattle.op_model.specs.Programs.{programs_of}
-use Rattle.machine.proofs.Sent.{sent-in, served-in}
+use Rattle.machine.proofs.Sent.{sent-in}
 use Rattle.op_model.proofs.Runs.{moment_of, run-push, moments-push, length-moments}
 
 -- one moment more, for each of a list of counts
@@ -76,6 +76,10 @@ module _ (sizes : Sizes) (faces faces' : List Face) (lanes : LaneState) (events 
   abbrev moved : Lanes
   moved = sent_from act.node sends (taken_off event lanes.lane)
 
+  -- the message that it took
+  abbrev taken : Option Msg
+  taken = taken_by past.state event
+
   abbrev new_face : Face
   new_face = record is.row.face { share = is.row.out.share }
 
@@ -85,14 +89,11 @@ module _ (sizes : Sizes) (faces faces' : List Face) (lanes : LaneState) (events 
   ran-next : run_by charge sizes programs (start sizes) (events ++ event ∷ []) ≡ Some next
   ran-next = run-push charge sizes programs (start sizes) past events event done kept.ran is.does
 
-  -- what the event sends are messages of the machine, and words for another node are those of a line
+  -- what the event sends are messages of the machine
   pub sends-in : All (IsSentOf sizes) sends
   sends-in =
       subst (All (IsSentOf sizes)) (sym is.row.sends_are)
       (sent-in charge (trace_by sizes (programs_in faces)) (machine-trace sizes charge faces kept.nodes) kept.sizes_are events past (traced sizes charge faces kept.nodes events past kept.ran) event done traced-does is.below)
-
-  pub words-in : (reader : ℕ) (on : Words) → is.row.out.served ≡ For reader on → length on ≡ sizes.words
-  words-in = served-in charge (trace_by sizes (programs_in faces)) (machine-trace sizes charge faces kept.nodes) kept.sizes_are events past (traced sizes charge faces kept.nodes events past kept.ran) event done traced-does is.below
 
   -- no node goes beyond the end of its program
   placed : is.row.out.share.place ≤ length is.row.face.program
@@ -139,14 +140,14 @@ module _ (sizes : Sizes) (faces faces' : List Face) (lanes : LaneState) (events 
   place-before = ap (share_or sizes act.node) is.row.there
 
   -- a node that is sent words stands where it stood, and wants what it wanted
-  spot : IsRead is.row.face is.row.out act.taken → (q : ℕ) → (share_in sizes faces' q).place ≡ (share_in sizes faces q).place
+  spot : IsRead is.row.face is.row.out taken → (q : ℕ) → (share_in sizes faces' q).place ≡ (share_in sizes faces q).place
   spot read q = ap (λ (s : Share). s.place) (share-after q) ∙ at-node (q == act.node) refl
     where
       at-node : (b : Bool) → (q == act.node) ≡ b → (cond b is.row.out.share (share_in sizes faces q)).place ≡ (share_in sizes faces q).place
       at-node true test = let here : act.node ≡ q = grind (arith, nat_tests) in read.place ∙ ap (λ (s : Share). s.place) (sym place-before) ∙ ap (λ n. (share_in sizes faces n).place) here
       at-node false test = refl
 
-  wish : IsRead is.row.face is.row.out act.taken → (q : ℕ) → (share_in sizes faces' q).want ≡ (share_in sizes faces q).want
+  wish : IsRead is.row.face is.row.out taken → (q : ℕ) → (share_in sizes faces' q).want ≡ (share_in sizes faces q).want
   wish read q = ap (λ (s : Share). s.want) (share-after q) ∙ at-node (q == act.node) refl
     where
       at-node : (b : Bool) → (q == act.node) ≡ b → (cond b is.row.out.share (share_in sizes faces q)).want ≡ (share_in sizes faces q).want
@@ -154,10 +155,10 @@ module _ (sizes : Sizes) (faces faces' : List Face) (lanes : LaneState) (events 
       at-node false test = refl
 
   -- what was served, read after the event
-  served-after : entries_after sizes faces' act.taken act.effect.served ≡ entries_of sizes past.state act.node is.row.out.line is.row.out.served
-  served-after = ap (entries_after sizes faces' act.taken) is.row.served ∙ go is.row.out.served refl
+  served-after : entries_after sizes faces' taken is.effect.served ≡ entries_of sizes past.state act.node is.row.out.line is.row.out.served
+  served-after = ap (entries_after sizes faces' taken) is.row.served ∙ go is.row.out.served refl
     where
-      go : (s : Service) → is.row.out.served ≡ s → entries_after sizes faces' act.taken (served_of act.node is.row.face.share.place s) ≡ entries_of sizes past.state act.node is.row.out.line s
+      go : (s : Service) → is.row.out.served ≡ s → entries_after sizes faces' taken (served_of act.node is.row.face.share.place s) ≡ entries_of sizes past.state act.node is.row.out.line s
       go NoService at = refl
       go (Own op on) at = ap (λ (s : Share). entry_of act.node s.place op on ∷ []) (sym place-before)
       go (For reader on) at =
@@ -168,14 +169,20 @@ module _ (sizes : Sizes) (faces faces' : List Face) (lanes : LaneState) (events 
           ∙ (λ i. entry_for reader (same i) on (want_on sizes (wants i) (msg_line read.m)))
           ∙ ap (λ l. entry_for reader (share_in sizes faces reader).place on (want_on sizes (share_in sizes faces reader).want l)) (sym read.line)
 
+  entry-after : entry_list act.entry ≡ entries_of sizes past.state act.node is.row.out.line is.row.out.served
+  entry-after = is.noted.entry_is ∙ served-after
+
+  finished : act.done ≡ is.row.out.done
+  finished = is.noted.done_is ∙ is.row.is_done
+
   -- by which counts the event is counted
   abbrev made_marks : List Bool
-  made_marks = marks_of event act.taken (is_some act.effect.done) (naks_in sends) act.marked
+  made_marks = marks_of event act.takes act.done (naks_in sends) act.marked
 
   marks-after : map (λ c. c.counts (moment_of past.state event done)) (all_counts sizes) ≡ made_marks
   marks-after =
-      let a = is.taken_is in
-      let b = is.row.is_done in
+      let a = is.takes_is in
+      let b = finished in
       let c = is.row.sends_are in
       let d = is.marked_is in
       sym (λ i. marks_of event (a i) (b i) (naks_in (c i)) (d i))
@@ -187,17 +194,17 @@ module _ (sizes : Sizes) (faces faces' : List Face) (lanes : LaneState) (events 
       ∙ counted-push (moments_in sizes faces events) (moment_of past.state event done) (all_counts sizes)
       ∙ (λ i. marked_up (sym kept.tally_is i) (marks-after i))
 
-  left-after : left_in faces' + cond (is_some act.effect.done) 1 0 ≡ left
+  left-after : left_in faces' + cond act.done 1 0 ≡ left
   left-after =
-      ap (λ fs. left_in fs + cond (is_some act.effect.done) 1 0) is.row.after ∙ ap (λ d. left_in (set faces act.node new_face) + cond d 1 0) is.row.is_done
+      ap (λ fs. left_in fs + cond act.done 1 0) is.row.after ∙ ap (λ d. left_in (set faces act.node new_face) + cond d 1 0) finished
       ∙ left-set faces act.node is.row.face is.row.out.share is.row.out.done is.row.there placed is.place ∙ sym kept.left_is
 
   -- an operation that is done was left
-  pub some-left : is_some act.effect.done ≡ true → 0 < left
-  some-left finished = let all = left-after in let one : ◌≡◌ {A = ℕ} (cond (is_some act.effect.done) 1 0) 1 = ap (λ b. cond b 1 0) finished in omega (arith, all, one)
+  pub some-left : act.done ≡ true → 0 < left
+  some-left finishes = let all = left-after in let one : ◌≡◌ {A = ℕ} (cond act.done 1 0) 1 = ap (λ b. cond b 1 0) finishes in omega (arith, all, one)
 
   pub kept-after : (lanes' : LaneState) (events' : List Event) (served' : List Entry) (tally' : List ℕ) (left' : ℕ) (out' : SendList) → lanes' ≡ record lanes { lane = moved } → events' ≡ events ++ event ∷ [] →
-      served' ≡ served ++ entries_after sizes faces' act.taken act.effect.served → tally' ≡ marked_up tally made_marks → left' ≡ left - cond (is_some act.effect.done) 1 0 → out' ≡ no_sends sizes →
+      served' ≡ served ++ entry_list act.entry → tally' ≡ marked_up tally made_marks → left' ≡ left - cond act.done 1 0 → out' ≡ no_sends sizes →
       IsKept sizes faces' lanes' events' served' tally' left' out'
   kept-after lanes' events' served' tally' left' out' lanes_is events_is served_is tally_is left_is out_is = record {
     sizes_are = kept.sizes_are;
@@ -205,7 +212,7 @@ module _ (sizes : Sizes) (faces faces' : List Face) (lanes : LaneState) (events 
     lanes_are = subst (AreLanesOf sizes) (sym lanes_is) (record { same_sizes = kept.lanes_are.same_sizes; requests = kept.lanes_are.requests; replies = kept.lanes_are.replies });
     ran =
         (λ i. run_by (same-charge i) sizes (programs_of (same-programs i)) (start sizes) (events_is i)) ∙ ran-next
-        ∙ (λ i. Some (record { state = state-after i; served = served ++ sym served-after i }))
+        ∙ (λ i. Some (record { state = state-after i; served = served ++ sym entry-after i }))
         ∙ (λ i. Some (record { state = state_of sizes faces' ((sym lanes_is i).lane); served = sym served_is i }));
     tally_is = tally_is ∙ sym tally-after ∙ ap (λ es. tally_of sizes (moments_in sizes faces' es)) (sym events_is);
     left_is = let all = left-after in omega (arith, all, left_is);

@@ -1,18 +1,22 @@
 -- What one node does with an input, as an event of the machine at that node.
-use Rattle.std.proofs.Common.{◌≡◌, ℕ, zero, suc, ◌+◌, ◌<◌, Bool, true, false, cond, List, [], ◌∷◌, ◌++◌, length, map, set, get_or, refl, ap, arith, sym, subst, ◌∙◌, Option, Some, None, Err}
+use Rattle.std.proofs.Common.{◌≡◌, ℕ, zero, suc, ◌+◌, ◌<◌, Bool, true, false, cond, List, [], ◌∷◌, ◌++◌, length, map, set, get_or, refl, ap, arith, sym, subst, ◌∙◌, Option, Some, None, Ok, Err}
 use Rattle.std.specs.Prelude.{slice_get, is_some}
 use Rattle.std.proofs.lemmas.List.{length-map}
-use Rattle.line_map.specs.Sizes.{Sizes}
+use Rattle.line_map.specs.Sizes.{Sizes, AreSizes}
 use Rattle.op_model.specs.declared.events.Cause.{Cause}
 use Rattle.op_model.specs.declared.messages.Msg.{Msg}
 use Rattle.op_model.specs.declared.operations.Op.{Op}
+use Rattle.op_model.specs.Lines.{Service, NoService, Own, For}
+use Rattle.op_model.specs.MessageWords.{IsMsgOf}
 use Rattle.op_model.specs.Operations.{Words}
 use Rattle.op_model.specs.OwnPart.{IsOwnPart}
 use Rattle.op_model.specs.Shares.{Charge}
-use Rattle.op_model.specs.Events.Node.{Input, meets_row}
+use Rattle.op_model.specs.Events.Node.{Input, NodeOutcome, TakeFrom, meets_row}
 use Rattle.cpu_cache.specs.declared.effects.Effect.{Effect}
 use Rattle.cpu_cache.specs.Effects.{served_of, entry_at, done_of}
 use Rattle.msg_words.specs.SendList.{SendList}
+use Rattle.message_range.specs.Fitting.{AreOnWords, IsInputOf, IsServedOf, IsShareOf}
+use Rattle.message_range.proofs.Acts.{every-act}
 use Rattle.message_range.proofs.Places.{act-placed}
 use Rattle.node_share.specs.Parts.{HasRoom}
 use Rattle.node_share.specs.Effects.{Acts}
@@ -20,7 +24,7 @@ use Rattle.magic_node.specs.declared.acts.LocalEvent.{LocalEvent}
 use Rattle.magic_node.specs.Nodes.{FitsEvent}
 use Rattle.machine.specs.Faces.{Face, outcome_at}
 use Rattle.machine.specs.Kept.{share_in, IsNodeAt, AreNodes, no_sends}
-use Rattle.machine.specs.Acts.{IsDoneAt, IsRefusedAt}
+use Rattle.machine.specs.Acts.{IsDoneAt, IsRefusedAt, FillsLine}
 use Rattle.machine.proofs.Faces.{slice_get-read, slice_get-mapped, share_in-at}
 use Rattle.machine.proofs.Services.{place-after}
 
@@ -91,3 +95,24 @@ module _ (sizes : Sizes) (charge : Charge) (faces : List Face) (node : ℕ) (old
 
   pub refused-at : (input : Input) (cause : Cause) → outcome_at old input ≡ Err cause → IsRefusedAt faces node input cause
   refused-at input cause refuses = record { face = old; there = there; refuses = refuses }
+
+  -- words that a node sends to another one for its load fill a line
+  pub fills-at : (src : ℕ) (m : Msg) (victim : Option ℕ) (out : NodeOutcome) → AreSizes sizes → node < sizes.nodes → src < sizes.nodes → IsMsgOf sizes m → IsOwnPart old.charge old.sizes old.number old.program old.share → IsShareOf old.sizes old.share →
+      outcome_at old (TakeFrom src m victim) ≡ Ok out → IsServedOf sizes out.served
+  fills-at src m victim out are below from of own fits does =
+      let p = sym is.same_sizes in
+      let here = subst (λ (s : Sizes). old.number < s.nodes) p (subst (λ n. n < sizes.nodes) (sym is.number_is) below) in
+      let words : AreOnWords sizes old.program = λ i op there. (is.program i op there).word in
+      let input : IsInputOf sizes (TakeFrom src m victim) = (from, of) in
+      subst (λ s. IsServedOf s out.served) is.same_sizes
+      (every-act old.charge old.sizes old.number old.program old.share (TakeFrom src m victim) out (subst AreSizes p are) here (subst (λ s. AreOnWords s old.program) p words) own fits (subst (λ s. IsInputOf s (TakeFrom src m victim)) p input) does).served
+
+  pub fills-line : (src : ℕ) (m : Msg) (victim : Option ℕ) (brought : Words) (before after : SendList) (new : Face) (effect : Effect) → AreSizes sizes → node < sizes.nodes → src < sizes.nodes → IsMsgOf sizes m → IsOwnPart old.charge old.sizes old.number old.program old.share →
+      IsShareOf old.sizes old.share → Acts old.number old.program old.share.place brought (outcome_at old (TakeFrom src m victim)) new.share before after effect → FillsLine sizes effect.served
+  fills-line src m victim brought before after new effect are below from of own fits acts =
+      subst (FillsLine sizes) (sym (ap (λ (e : Effect). e.served) acts.told)) (go acts.outcome.served (fills-at src m victim acts.outcome are below from of own fits acts.is))
+    where
+      go : (s : Service) → IsServedOf sizes s → FillsLine sizes (served_of old.number old.share.place s)
+      go NoService fills = tt
+      go (Own op on) fills = tt
+      go (For reader on) fills = fills

@@ -6,14 +6,18 @@ use Rattle.op_model.specs.declared.events.Class.{Class}
 use Rattle.op_model.specs.declared.events.Event.{Event}
 use Rattle.op_model.specs.declared.events.Event.TheVariants.{Take}
 use Rattle.op_model.specs.declared.messages.Msg.{Msg}
+use Rattle.op_model.specs.Messages.{msg_content}
 use Rattle.op_model.specs.Shares.{Charge, Lanes}
 use Rattle.op_model.specs.Events.Node.{Input, TakeFrom, NodeOutcome, local, permit}
-use Rattle.op_model.specs.Events.Step.{Off, none_off, one_off, act, take_front, effect}
+use Rattle.op_model.specs.Events.Step.{Off, none_off, one_off, act, take_front, effect, is_departure}
 use Rattle.op_model.specs.Run.Counts.{front_of, taken_by, takes_marked}
 use Rattle.magic_node.specs.declared.acts.LocalEvent.{LocalEvent}
+use Rattle.cpu_cache.specs.declared.effects.Effect.{Effect}
+use Rattle.lane_queues.specs.LaneStates.{HasFront}
 use Rattle.machine.specs.declared.acts.Act.{Act}
 use Rattle.machine.specs.Kept.{programs_in, share_in, state_of, AreNodes}
-use Rattle.machine.specs.Acts.{off_of, IsDoneAt, IsRefusedAt, IsAlone, IsAct, IsRefusedIn, IsRead, is_marked_put, permit_at, IsPermitIn}
+use Rattle.machine.specs.Marks.{take_marks_of}
+use Rattle.machine.specs.Acts.{off_of, IsDoneAt, IsRefusedAt, IsNoted, IsAlone, TakesFront, IsAct, IsRefusedIn, IsRead, is_marked_put, permit_at, IsPermitIn}
 use Rattle.machine.proofs.Faces.{local-at}
 use Rattle.machine.specs.Faces.{Face}
 use Rattle.magic_node.specs.Nodes.{input_of}
@@ -28,9 +32,9 @@ module _ (charge : Charge) (sizes : Sizes) (faces faces' : List Face) (lane : La
   -- an event that is a node's own
   pub own-act : (event : Event) (node : ℕ) (own : LocalEvent) (room : Bool) (sends : List (ℕ × Msg)) (made : Act) →
       effect charge sizes (programs_of (programs_in faces)) (state_of sizes faces lane) event ≡ act node none_off (in_state node (input_of own room)) →
-      off_of event ≡ none_off → taken_by (state_of sizes faces lane) event ≡ None → takes_marked sizes (state_of sizes faces lane) event None ≡ false → node < sizes.nodes →
+      off_of event ≡ none_off → taken_by (state_of sizes faces lane) event ≡ None → takes_marked sizes (state_of sizes faces lane) event None ≡ false → TakesFront lane event made.departs → node < sizes.nodes →
       IsAlone sizes faces faces' node (input_of own room) sends made → IsAct charge sizes faces faces' lane event sends made
-  own-act event node own room sends made is off none unmarked below alone =
+  own-act event node own room sends made is off none unmarked front below alone =
       let row = alone.row in
       let input = input_of own room in
       let here = sym alone.node_is in
@@ -39,11 +43,14 @@ module _ (charge : Charge) (sizes : Sizes) (faces faces' : List Face) (lane : La
       let local_is : in_state made.node input ≡ Ok row.out = local-at sizes charge faces made.node row.face row.there (nodes.each made.node row.face row.there) input ∙ row.does in
       record {
         input = input;
+        effect = alone.effect;
         row = row;
         does = its ∙ ap (act made.node none_off) local_is ∙ ap (λ (o : Off). Ok (record { node = made.node; out = row.out; off = o })) (sym off);
         below = subst (λ n. n < sizes.nodes) here below;
         place = place-after row.face.charge row.face.sizes row.face.number row.face.program row.face.share input row.out row.does;
-        taken_is = alone.takes_nothing ∙ sym none;
+        noted = subst (λ t. IsNoted sizes faces' t alone.effect made) (sym none) alone.noted;
+        takes_is = alone.takes_nothing ∙ sym (ap take_marks_of none);
+        front = front;
         marked_is = alone.not_marked ∙ sym (ap (takes_marked sizes (state_of sizes faces lane) event) none ∙ unmarked);
         reads = λ reader on served. absurd (not-for row.out.served reader on (alone-for row.face.charge row.face.sizes row.face.number row.face.program row.face.share own room row.out row.does) served);
       }
@@ -71,21 +78,21 @@ module _ (charge : Charge) (sizes : Sizes) (faces faces' : List Face) (lane : La
         takes ∙ ap (act dst (one_off src dst class)) (local-at sizes charge faces dst refused.face refused.there (nodes.each dst refused.face refused.there) (TakeFrom src m victim) ∙ refused.refuses)
 
     -- where it is sent words, its reader is elsewhere, or begins nothing here
-    read : (made : Act) {sends : List (ℕ × Msg)} (row : IsDoneAt sizes faces faces' made.node (TakeFrom src m victim) sends made.effect) → made.taken ≡ Some m → is_for row.out.served ≡ true → IsRead row.face row.out made.taken
-    read made row its for =
+    read : {node : ℕ} {effect : Effect} {sends : List (ℕ × Msg)} (row : IsDoneAt sizes faces faces' node (TakeFrom src m victim) sends effect) → is_for row.out.served ≡ true → IsRead row.face row.out (taken_by (state_of sizes faces lane) take_event)
+    read row for =
         let quiet = take-quiet row.face.charge row.face.sizes row.face.number row.face.program row.face.share src m victim row.out row.does in
         let place = place-after row.face.charge row.face.sizes row.face.number row.face.program row.face.share (TakeFrom src m victim) row.out row.does in
         record {
           m = m;
-          taken_is = its;
+          taken_is = taken;
           line = take-line row.face.charge row.face.sizes row.face.number row.face.program row.face.share src m victim row.out row.does;
           place = place ∙ ap (λ d. cond d (suc row.face.share.place) row.face.share.place) (quiet.undone for);
           want = quiet.want for;
         }
 
-    pub take-act : (sends : List (ℕ × Msg)) (made : Act) → made.node ≡ dst → dst < sizes.nodes → IsDoneAt sizes faces faces' made.node (TakeFrom src m victim) sends made.effect → made.taken ≡ Some m →
-        made.marked ≡ is_marked_put sizes dst (share_in sizes faces dst).want m → IsAct charge sizes faces faces' lane take_event sends made
-    take-act sends made node_is below row its mark =
+    pub take-act : (sends : List (ℕ × Msg)) (made : Act) (done : Effect) → made.node ≡ dst → dst < sizes.nodes → IsDoneAt sizes faces faces' made.node (TakeFrom src m victim) sends done → IsNoted sizes faces' (Some m) done made → made.takes ≡ take_marks_of (Some m) →
+        made.departs ≡ is_departure (msg_content m) → made.marked ≡ is_marked_put sizes dst (share_in sizes faces dst).want m → IsAct charge sizes faces faces' lane take_event sends made
+    take-act sends made done node_is below row noted its departs mark =
         let input = TakeFrom src m victim in
         let here = sym node_is in
         let is : effect charge sizes (programs_of (programs_in faces)) (state_of sizes faces lane) take_event ≡ act made.node (one_off src dst class) (in_state made.node input) =
@@ -93,13 +100,16 @@ module _ (charge : Charge) (sizes : Sizes) (faces faces' : List Face) (lane : La
         let local_is : in_state made.node input ≡ Ok row.out = local-at sizes charge faces made.node row.face row.there (nodes.each made.node row.face row.there) input ∙ row.does in
         record {
           input = input;
+          effect = done;
           row = row;
           does = is ∙ ap (act made.node (one_off src dst class)) local_is;
           below = subst (λ n. n < sizes.nodes) here below;
           place = place-after row.face.charge row.face.sizes row.face.number row.face.program row.face.share input row.out row.does;
-          taken_is = its ∙ sym taken;
+          noted = subst (λ t. IsNoted sizes faces' t done made) (sym taken) noted;
+          takes_is = its ∙ sym (ap take_marks_of taken);
+          front = subst (λ ms. HasFront ms made.departs) (sym front) departs;
           marked_is = mark ∙ sym (ap (takes_marked sizes (state_of sizes faces lane) take_event) taken);
-          reads = λ reader on served. read made row its (let yes_for : is_for row.out.served ≡ true = ap is_for served in yes_for);
+          reads = λ reader on served. read row (let yes_for : is_for row.out.served ≡ true = ap is_for served in yes_for);
         }
 
   pub no-front : (src dst : ℕ) (class : Class) (victim : Option ℕ) → lane src dst class ≡ [] → IsRefusedIn charge sizes faces lane (Take src dst class victim) Cause.LaneEmpty

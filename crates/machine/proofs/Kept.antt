@@ -1,15 +1,11 @@
 -- What the machine keeps says nothing of the room of its journal.
 use Rattle.std.proofs.Common.{◌≡◌, ℕ, List, [], ap, sym, subst, ◌∙◌}
 use Rattle.line_map.specs.Sizes.{Sizes}
-use Rattle.op_model.specs.Operations.{Words}
-use Rattle.op_model.specs.Lines.{Service, NoService, Own, For}
-use Rattle.cpu_cache.specs.declared.effects.Served.TheVariants as served
 use Rattle.lane_queues.specs.LaneStates.{LaneState}
 use Rattle.msg_words.specs.SendList.{SendList}
 use Rattle.machine.specs.declared.journal.Journal.{Journal}
 use Rattle.machine.specs.Kept.{no_sends, IsKept}
 use Rattle.machine.specs.Faces.{Face}
-use Rattle.cpu_cache.specs.Effects.{served_of}
 use Rattle.machine.specs.Journals.{IsSameJournal, IsKeptWith}
 
 pub kept-same : (sizes : Sizes) (faces : List Face) (lanes : LaneState) (old new : Journal) (out : SendList) → IsSameJournal old new → IsKeptWith sizes faces lanes old out → IsKeptWith sizes faces lanes new out
@@ -18,12 +14,6 @@ kept-same sizes faces lanes old new out same kept =
     (subst (λ es. IsKept sizes faces lanes old.events.items es new.counts new.left out) (sym same.served)
     (subst (λ ns. IsKept sizes faces lanes old.events.items old.served.items ns new.left out) (sym same.counts)
     (subst (λ n. IsKept sizes faces lanes old.events.items old.served.items old.counts n out) (sym same.left) kept)))
-
--- words for another node are a service of that node
-pub served-for : (node place : ℕ) (service : Service) (reader : ℕ) (on : Words) → served_of node place service ≡ served.LoadBy reader on → service ≡ For reader on
-served-for node place NoService reader on is = cc
-served-for node place (Own op words) reader on is = cc
-served-for node place (For other words) reader on is = cc
 
 pub cleared : (sizes : Sizes) (before after last : SendList) → before ≡ no_sends sizes → after.room ≡ before.room → last ≡ record after { list = [] } → last ≡ no_sends sizes
 cleared sizes before after last none room is = is ∙ ap (λ r. record { list = []; room = r }) (room ∙ ap (λ (o : SendList). o.room) none)

@@ -1,5 +1,5 @@
--- What an event sends and serves fits the machine: its node's share does, and so does the message that it takes.
-use Rattle.std.proofs.Common.{◌≡◌, ℕ, ◌<◌, List, length, subst, arith, Some, Ok}
+-- What an event sends fits the machine: its node's share does, and so does the message that it takes.
+use Rattle.std.proofs.Common.{◌≡◌, ℕ, ◌<◌, List, subst, arith, Some, Ok}
 use Rattle.std.specs.List.{All}
 use Rattle.std.proofs.lemmas.List.Elements.{All-head}
 use Rattle.std.proofs.lemmas.Bool.Decides.{nat_tests}
@@ -7,15 +7,13 @@ use Rattle.line_map.specs.Sizes.{AreSizes}
 use Rattle.op_model.specs.declared.events.Event.{Event}
 use Rattle.op_model.specs.Events.Node.{Input, HitNext, IssueNext, EvictLine, TakeFrom, ReclaimLine}
 use Rattle.op_model.specs.Events.Step.{Done, effect}
-use Rattle.op_model.specs.Lines.{For}
 use Rattle.op_model.specs.MessageWords.{IsMsgOf}
-use Rattle.op_model.specs.Operations.{Words}
 use Rattle.op_model.specs.Run.Runs.{Past, run}
 use Rattle.op_model.specs.Shares.{Charge, Trace, program}
 use Rattle.node_range.specs.Range.{IsOfMachine, IsRanged}
 use Rattle.node_range.proofs.Events.{ranged-run}
 use Rattle.own_part.proofs.Runs.{own_run}
-use Rattle.message_range.specs.Fitting.{IsInputOf, IsInputForOther, IsMsgForOther, IsSentOf, IsServedOf}
+use Rattle.message_range.specs.Fitting.{IsInputOf, IsInputForOther, IsMsgForOther, IsSentOf}
 use Rattle.message_range.proofs.Acts.{IsActed, every-act}
 use Rattle.message_range.proofs.Events.{IsDone, IsGiven, done-by, filled, program-of}
 use Rattle.message_range.proofs.Runs.{messages_of_machine, messages_for_others, share-fits}
@@ -48,6 +46,3 @@ module _ (charge : Charge) (trace : Trace) (all : IsOfMachine trace) (are : AreS
 
   pub sent-in : All (IsSentOf trace.sizes) d.out.sends
   sent-in = acted.sent
-
-  pub served-in : (reader : ℕ) (on : Words) → d.out.served ≡ For reader on → length on ≡ trace.sizes.words
-  served-in reader on is = subst (IsServedOf trace.sizes) is acted.served

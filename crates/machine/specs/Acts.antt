@@ -13,18 +13,20 @@ use Rattle.op_model.specs.Lines.{For}
 use Rattle.op_model.specs.Operations.{Words}
 use Rattle.op_model.specs.Shares.{Charge, Lanes, want_on}
 use Rattle.op_model.specs.Events.Node.{Input, NodeOutcome, meets_row, local, permit}
-use Rattle.op_model.specs.Events.Step.{Off, none_off, one_off, to_lane, effect}
+use Rattle.op_model.specs.Events.Step.{Off, none_off, one_off, to_lane}
+use Rattle.op_model.specs.Events.Step.{effect as effect_of}
 use Rattle.op_model.specs.Run.Counts.{taken_by, takes_marked, is_kind, APut, is_marked}
 use Rattle.op_model.specs.Run.Runs.{entry_for}
 use Rattle.cpu_cache.specs.declared.effects.Effect.{Effect}
 use Rattle.cpu_cache.specs.declared.effects.Served.{Served}
 use Rattle.cpu_cache.specs.declared.effects.Served.TheVariants as served
-use Rattle.lane_queues.specs.LaneStates.{LaneState, capacity_of}
+use Rattle.lane_queues.specs.LaneStates.{LaneState, HasFront, capacity_of}
 use Rattle.machine.specs.declared.acts.Act.{Act}
 use Rattle.machine.specs.Faces.{Face, outcome_at}
 use Rattle.cpu_cache.specs.Effects.{served_of}
 use Rattle.op_model.specs.Programs.{programs_of}
 use Rattle.machine.specs.Kept.{programs_in, share_in, state_of}
+use Rattle.machine.specs.Marks.{take_marks_of}
 
 -- lanes after a node's messages have come to their ends
 abbrev pub sent_from : ℕ → List (ℕ × Msg) → Lanes → Lanes
@@ -54,6 +56,11 @@ entries_after sizes faces taken (served.Own entry) = entry ∷ []
 entries_after sizes faces None (served.LoadBy node on) = []
 entries_after sizes faces (Some m) (served.LoadBy node on) = entry_for node (share_in sizes faces node).place on (want_on sizes (share_in sizes faces node).want (msg_line m))
 
+-- words that another node is sent fill a line
+abbrev pub FillsLine : Sizes → Served → Type 0
+FillsLine sizes (served.LoadBy node on) = length on ≡ sizes.words
+FillsLine sizes _ = Unit {0}
+
 -- One of the nodes did its row for an input: its share is the row's, and this is sent
 pub record IsDoneAt (sizes : Sizes) (faces faces' : List Face) (node : ℕ) (input : Input) (sends : List (ℕ × Msg)) (effect : Effect) : Type 0 where
   pub face : Face
@@ -71,11 +78,18 @@ pub record IsRefusedAt (faces : List Face) (node : ℕ) (input : Input) (cause :
   pub there : slice_get faces node ≡ Some face
   pub refuses : outcome_at face input ≡ Err cause
 
+-- what is noted of an effect: whether an operation was done, and the entry of what was served, where this message was taken
+pub record IsNoted (sizes : Sizes) (faces : List Face) (taken : Option Msg) (effect : Effect) (act : Act) : Type 0 where
+  pub done_is : act.done ≡ is_some effect.done
+  pub entry_is : entry_list act.entry ≡ entries_after sizes faces taken effect.served
+
 -- one of the nodes did its row for an input of its own
 pub record IsAlone (sizes : Sizes) (faces faces' : List Face) (node : ℕ) (input : Input) (sends : List (ℕ × Msg)) (act : Act) : Type 0 where
   pub node_is : act.node ≡ node
-  pub row : IsDoneAt sizes faces faces' act.node input sends act.effect
-  pub takes_nothing : act.taken ≡ None
+  pub effect : Effect
+  pub row : IsDoneAt sizes faces faces' act.node input sends effect
+  pub noted : IsNoted sizes faces' None effect act
+  pub takes_nothing : act.takes ≡ take_marks_of None
   pub not_marked : act.marked ≡ false
 
 -- the first message of a lane meets a row at its taker
@@ -94,24 +108,32 @@ pub record IsRead (old : Face) (out : NodeOutcome) (taken : Option Msg) : Type 0
   pub place : out.share.place ≡ old.share.place
   pub want : out.share.want ≡ old.share.want
 
--- What an event did: its row at its node, the message that it took, and whether that was the Put of a marked load
+-- an event takes the first message of its lane, which is a write-back or a hint, or isn't
+abbrev pub TakesFront : Lanes → Event → Bool → Type 0
+TakesFront lane (Take src dst class victim) departs = HasFront (lane src dst class) departs
+TakesFront lane _ departs = Unit {0}
+
+-- What an event did: its row at its node, and what is noted of it and of the message that it took
 pub record IsAct (charge : Charge) (sizes : Sizes) (faces faces' : List Face) (lane : Lanes) (event : Event) (sends : List (ℕ × Msg)) (act : Act) : Type 0 where
   pub input : Input
-  pub row : IsDoneAt sizes faces faces' act.node input sends act.effect
-  pub does : effect charge sizes (programs_of (programs_in faces)) (state_of sizes faces lane) event ≡ Ok (record { node = act.node; out = row.out; off = off_of event })
+  pub effect : Effect
+  pub row : IsDoneAt sizes faces faces' act.node input sends effect
+  pub does : effect_of charge sizes (programs_of (programs_in faces)) (state_of sizes faces lane) event ≡ Ok (record { node = act.node; out = row.out; off = off_of event })
   pub below : act.node < sizes.nodes
   pub place : row.out.share.place ≡ (if row.out.done then suc row.face.share.place else row.face.share.place)
-  pub taken_is : act.taken ≡ taken_by (state_of sizes faces lane) event
+  pub noted : IsNoted sizes faces' (taken_by (state_of sizes faces lane) event) effect act
+  pub takes_is : act.takes ≡ take_marks_of (taken_by (state_of sizes faces lane) event)
+  pub front : TakesFront lane event act.departs
   pub marked_is : act.marked ≡ takes_marked sizes (state_of sizes faces lane) event (taken_by (state_of sizes faces lane) event)
-  pub reads : (reader : ℕ) (on : Words) → row.out.served ≡ For reader on → IsRead row.face row.out act.taken
+  pub reads : (reader : ℕ) (on : Words) → row.out.served ≡ For reader on → IsRead row.face row.out (taken_by (state_of sizes faces lane) event)
 
 -- an event is refused for this cause
 abbrev pub IsRefusedIn : Charge → Sizes → List Face → Lanes → Event → Cause → Type 0
-IsRefusedIn charge sizes faces lane event cause = effect charge sizes (programs_of (programs_in faces)) (state_of sizes faces lane) event ≡ Err cause
+IsRefusedIn charge sizes faces lane event cause = effect_of charge sizes (programs_of (programs_in faces)) (state_of sizes faces lane) event ≡ Err cause
 
 -- whether a node of the machine would do its row for an input, and whether an event would be made
 abbrev pub permit_at : Charge → Sizes → List Face → ℕ → Input → Result (Unit {0}) Cause
 permit_at charge sizes faces node input = permit (local charge sizes node (programs_of (programs_in faces) node) (share_in sizes faces node) input)
 
 abbrev pub IsPermitIn : Charge → Sizes → List Face → Lanes → Event → Result (Unit {0}) Cause → Type 0
-IsPermitIn charge sizes faces lane event result = result ≡ permit (effect charge sizes (programs_of (programs_in faces)) (state_of sizes faces lane) event)
+IsPermitIn charge sizes faces lane event result = result ≡ permit (effect_of charge sizes (programs_of (programs_in faces)) (state_of sizes faces lane) event)

@@ -7,23 +7,27 @@ ghost use Rattle.machine.specs.Kept.{AreNodes, AreLanesOf, charge_in, no_sends, 
 ghost use Rattle.magic_node.specs.Nodes.{FitsEvent, input_of};
 ghost use Rattle.op_model.specs.Run.Machines.{IsEventOf};
 ghost use Rattle.machine.specs.Faces.{face_of, dir_of};
-ghost use Rattle.machine.specs.Acts.{IsDoneAt, IsRefusedAt, IsAlone, IsAct, IsRefusedIn, AreFrontsMet, is_marked_put};
+ghost use Rattle.machine.specs.Acts.{IsDoneAt, IsRefusedAt, IsAlone, IsAct, IsRefusedIn, AreFrontsMet, FillsLine, is_marked_put};
 
-use crate::nodes::told_dir;
+use crate::entries::{entry_served, own_entry};
+use crate::nodes::{told_dir, told_sizes};
+use crate::tally::take_marks;
 use cpu_cache::Effect;
 use dir_header::Sharers;
 use lane_queues::Lanes;
 use line_map::Machine;
 use magic_node::{LocalEvent, MagicNode};
 use msg_words::Sends;
-use op_model::{Cause, Class, Event, Msg, Want};
+use op_model::{Cause, Class, Entry, Event, Msg, Want};
 
-/// What an event did: at which node and with which effect, which message it took, and whether that was the Put of a marked load.
+/// What an event did: at which node, whether an operation of that node was done, and the entry of the operation that was served; of the message that it took, by which counts of messages it is counted, whether it was a write-back or a hint, and whether it was the Put of a marked load.
 #[derive(Clone, Copy)]
 pub(crate) struct Act {
     pub(crate) node: u32,
-    pub(crate) effect: Effect,
-    pub(crate) taken: Option<Msg>,
+    pub(crate) done: bool,
+    pub(crate) entry: Option<Entry>,
+    pub(crate) takes: [bool; 14],
+    pub(crate) departs: bool,
     pub(crate) marked: bool,
 }
 
@@ -72,11 +76,13 @@ fn do_take<D: Sharers>(
     requires row { meets_row cfg dst (share_in cfg (map face_of nodes.old.items) dst) src msg.now ≡ true }
     requires nothing { out.old ≡ no_sends cfg }
     ensures ok { IfOk result (λ effect. IsDoneAt cfg (map face_of nodes.old.items) (map face_of nodes.new.items) dst (TakeFrom src msg.now victim) out.new.list effect) }
+    ensures words { IfOk result (λ effect. FillsLine cfg effect.served) }
     ensures err { IfErr result (λ cause. IsRefusedAt (map face_of nodes.old.items) dst (TakeFrom src msg.now victim) cause) }
     ensures dirs { All D.is_sound (map dir_of nodes.new.items) }
     ensures room { out.new.room ≡ out.old.room }
     ensures same { OnErr result ((nodes.new.items ≡ nodes.old.items) × (out.new ≡ out.old)) }
 {
+    told_sizes(cfg);
     let node = &mut nodes[dst as usize];
     let _kept = node.number();
     let done = node.take(src, msg, victim, out);
@@ -121,8 +127,10 @@ fn act_alone<D: Sharers>(
     let effect = do_alone(cfg, nodes, out, node, event, room)?;
     Ok(Act {
         node,
-        effect,
-        taken: None,
+        done: effect.done.is_some(),
+        entry: own_entry(&effect.served),
+        takes: [false; 14],
+        departs: false,
         marked: false,
     })
 }
@@ -158,8 +166,10 @@ fn act_on_message<D: Sharers, Q: Lanes>(
     let effect = do_take(cfg, nodes, out, src, dst, &msg, victim)?;
     Ok(Act {
         node: dst,
-        effect,
-        taken: Some(msg),
+        done: effect.done.is_some(),
+        entry: entry_served(&cfg, nodes, &msg, &effect.served),
+        takes: take_marks(&msg),
+        departs: msg.is_departure(),
         marked,
     })
 }

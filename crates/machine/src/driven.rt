@@ -24,8 +24,8 @@ impl<D: Sharers, Q: Lanes> Machine1<D, Q> {
         Machine1::cfg(self)
     }
 
-    // The lanes, in the state that the run has come to.
-    fn lanes_now(&self) -> &Q
+    /// The lanes, in the state that the run has come to.
+    pub(crate) fn lanes_now(&self) -> &Q
         ensures sizes { (Q.meaning result.now).sizes ≡ self.now.sizes }
         ensures lane { (Q.meaning result.now).lane ≡ (run_made self.now).past.state.lane }
     {

@@ -1,22 +1,20 @@
 //! The entry of the operation that an event serves.
 
-ghost use Rattle.std.specs.Prelude.{◌≡◌, ◌<◌, ℕ, map, length, IfOk};
-ghost use Rattle.op_model.specs.Operations.{Words, entry_of};
+ghost use Rattle.std.specs.Prelude.{◌≡◌, ◌<◌, List, map, length, None, Some, IfOk};
+ghost use Rattle.op_model.specs.Operations.{entry_of};
 ghost use Rattle.op_model.specs.Run.Runs.{entry_for};
 ghost use Rattle.op_model.specs.Run.History.{is_completed, kept_of};
 ghost use Rattle.op_model.specs.Shares.{Lanes, want_on};
 ghost use Rattle.line_map.specs.Sizes.{Sizes};
-ghost use Rattle.cpu_cache.specs.declared.effects.Served.TheVariants as served;
 ghost use Rattle.machine.specs.Kept.{share_in, state_of};
-ghost use Rattle.machine.specs.Faces.{face_of};
-ghost use Rattle.machine.specs.Acts.{entry_list, entries_after};
+ghost use Rattle.machine.specs.Faces.{Face, face_of};
+ghost use Rattle.machine.specs.Acts.{entry_list, entries_after, FillsLine};
 
-use crate::acts::Act;
 use cpu_cache::Served;
 use dir_header::Sharers;
 use line_map::{Body, Machine};
 use magic_node::MagicNode;
-use op_model::{Entry, Kind, NoMemory, Op, old_at};
+use op_model::{Entry, Kind, Msg, NoMemory, Op, old_at};
 use std::alloc::Global;
 
 // The entry of an operation that found these words in its line.
@@ -59,22 +57,30 @@ fn entry_read<D: Sharers>(
     Some(entry_on(node, place, &want.op, body, cfg.words()))
 }
 
-/// The entry of the operation that an event served, where it served one.
+/// The entry of the operation that an event of a node by itself served, where it served one: the node's own.
+pub(crate) fn own_entry(served: &Served) -> Option<Entry>
+    ensures { (sizes : Sizes) (faces : List Face) → entry_list result ≡ entries_after sizes faces None served.now }
+{
+    match served {
+        Served::Own(entry) => Some(*entry),
+        Served::Nothing | Served::LoadBy { .. } => None,
+    }
+}
+
+/// The entry of the operation that was served when a message was taken, where one was served.
 pub(crate) fn entry_served<D: Sharers>(
     cfg: &Machine,
     nodes: &Vec<MagicNode<D>>,
-    act: &Act,
+    msg: &Msg,
+    served: &Served,
 ) -> Option<Entry>
-    requires { (reader : ℕ) (on : Words) → act.now.effect.served ≡ served.LoadBy reader on → length on ≡ cfg.now.words }
-    ensures { entry_list result ≡ entries_after cfg.now (map face_of nodes.now.items) act.now.taken act.now.effect.served }
+    requires { FillsLine cfg.now served.now }
+    ensures { entry_list result ≡ entries_after cfg.now (map face_of nodes.now.items) (Some msg.now) served.now }
 {
-    match act.effect.served {
+    match served {
         Served::Nothing => None,
-        Served::Own(entry) => Some(entry),
-        Served::LoadBy { node, body } => {
-            let msg = act.taken?;
-            entry_read(cfg, nodes, node, msg.line(), &body)
-        }
+        Served::Own(entry) => Some(*entry),
+        Served::LoadBy { node, body } => entry_read(cfg, nodes, *node, msg.line(), body),
     }
 }
 

@@ -14,6 +14,7 @@ mod reported;
 mod run;
 mod sending;
 mod tally;
+mod viewed;
 
 pub use machine::Machine1;
 pub use machine_face::ApplyError;

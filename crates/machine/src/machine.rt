@@ -141,6 +141,13 @@ impl<D: Sharers, Q: Lanes> Machine1<D, Q> {
         self.run.journal.events[i as usize]
     }
 
+    /// All events, in the order in which they were made.
+    pub fn events(&self) -> &[Event]
+        ensures { result.now ≡ self.now.events }
+    {
+        &self.run.journal.events
+    }
+
     /// Whether the machine is at rest: no message is under way, no operation is begun, and no line is pending.
     pub fn is_quiet(&self) -> bool
         ensures { (past : Past) → run_of self.now ≡ Some past → IsTrue result ↔ IsAtRest past.state }

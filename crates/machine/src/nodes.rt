@@ -1,6 +1,7 @@
 //! The nodes at the start.
 
 ghost use Rattle.std.specs.Prelude.{◌≡◌, ◌≤◌, map, length, sum_by, All, IfOk};
+ghost use Rattle.line_map.specs.Sizes.{AreSizes};
 ghost use Rattle.op_model.specs.Programs.{ArePrograms};
 ghost use Rattle.machine.specs.Faces.{face_of, dir_of};
 ghost use Rattle.machine.specs.Starts.{AreFresh, AreNew};
@@ -22,6 +23,11 @@ pub(crate) fn count_ops(programs: &[Program]) -> u64
     }
     count
 }
+
+/// The sizes of a machine say that they are within their limits.
+pub(crate) fn told_sizes(cfg: Machine)
+    ensures { AreSizes cfg }
+{}
 
 /// The directory of a node says what holds of each one of its kind.
 pub(crate) fn told_dir<D: Sharers>(node: &MagicNode<D>)

@@ -13,8 +13,8 @@ use op_model::{Entry, NoMemory, Program};
 use std::alloc::Global;
 
 impl<D: Sharers, Q: Lanes> Machine1<D, Q> {
-    // A home, in the state that the run has come to.
-    fn home_now(&self, home: u32) -> &HomeSide<D>
+    /// A home, in the state that the run has come to.
+    pub(crate) fn home_now(&self, home: u32) -> &HomeSide<D>
         requires { home < self.now.sizes.nodes }
         ensures value { result.now ≡ record { sizes = self.now.sizes; node = home; charge = self.now.charge; dir = result.now.dir; headers = ((run_made self.now).past.state.share home).headers } }
         ensures kept { IsHome (D.directory result.now.dir) result.now }

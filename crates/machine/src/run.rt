@@ -8,7 +8,6 @@ ghost use Rattle.machine.specs.Faces.{face_of, dir_of};
 ghost use Rattle.machine.specs.Answers.{IsCauseIn};
 
 use crate::acts::do_event;
-use crate::entries::entry_served;
 use crate::journal::Journal;
 use crate::sending::move_messages;
 use crate::tally::naks_of;
@@ -52,11 +51,10 @@ impl<D: Sharers, Q: Lanes> Run<D, Q> {
             Ok(act) => act,
             Err(cause) => return Err(ApplyError::NotEnabled(cause)),
         };
-        let entry = entry_served(&self.cfg, &self.nodes, &act);
-        move_messages(&mut self.lanes, event, act.node, &self.out);
+        move_messages(&mut self.lanes, event, act.departs, act.node, &self.out);
         let naks = naks_of(&self.out);
         self.out.clear();
-        self.journal.note(event, &act, naks, entry);
+        self.journal.note(event, &act, naks);
         Ok(())
     }
 }

@@ -5,6 +5,8 @@ ghost use Rattle.op_model.specs.Programs.{ArePrograms};
 ghost use Rattle.op_model.specs.Run.Bounds.{request_bound as requests_at_most, reply_bound as replies_at_most};
 ghost use Rattle.lane_queues.specs.LaneStates.{no_messages};
 
+mod views;
+
 use crate::{first_dirs, first_programs, is_of_machine, put_op};
 use Class::{Reply, Request};
 use Kind::{Load, Store};
@@ -232,41 +234,48 @@ fn a_load_is_served_before_the_store_that_ends_first(rt: HostRuntime) -> Result<
     )
 }
 
+/// The two lines of a home with one link, read by two nodes in turn.
+const ONE_LINK: [Access; 4] = [
+    (1, Load, 0, 0),
+    (1, Load, 1, 0),
+    (2, Load, 0, 0),
+    (2, Load, 1, 0),
+];
+
+fn one_link_steps() -> [Step; 22] {
+    [
+        (issue(1), None),
+        (take(1, 0, Request), None),
+        (take(0, 1, Reply), None),
+        (issue(2), None),
+        (take(2, 0, Request), None),
+        (take(0, 2, Reply), None),
+        (issue(1), None),
+        (take(1, 0, Request), None),
+        (take(0, 1, Reply), None),
+        (issue(2), None),
+        (take(2, 0, Request), Some(Cause::VictimMissing)),
+        (call_in(2, 0, 1), Some(Cause::VictimUnfit)),
+        (call_in(2, 0, 99), Some(Cause::VictimUnfit)),
+        (call_in(2, 0, 0), None),
+        (take(0, 2, Reply), None),
+        (take(0, 1, Request), None),
+        (take(1, 0, Reply), None),
+        (take(0, 2, Request), None),
+        (take(2, 0, Reply), None),
+        (issue(2), None),
+        (take(2, 0, Request), None),
+        (take(0, 2, Reply), None),
+    ]
+}
+
 #[test]
 fn a_line_is_called_in_for_its_link(rt: HostRuntime) -> Result<(), Fail> {
     row(
         &rt,
         rt.alloc(),
-        &[
-            (1, Load, 0, 0),
-            (1, Load, 1, 0),
-            (2, Load, 0, 0),
-            (2, Load, 1, 0),
-        ],
-        &[
-            (issue(1), None),
-            (take(1, 0, Request), None),
-            (take(0, 1, Reply), None),
-            (issue(2), None),
-            (take(2, 0, Request), None),
-            (take(0, 2, Reply), None),
-            (issue(1), None),
-            (take(1, 0, Request), None),
-            (take(0, 1, Reply), None),
-            (issue(2), None),
-            (take(2, 0, Request), Some(Cause::VictimMissing)),
-            (call_in(2, 0, 1), Some(Cause::VictimUnfit)),
-            (call_in(2, 0, 99), Some(Cause::VictimUnfit)),
-            (call_in(2, 0, 0), None),
-            (take(0, 2, Reply), None),
-            (take(0, 1, Request), None),
-            (take(1, 0, Reply), None),
-            (take(0, 2, Request), None),
-            (take(2, 0, Reply), None),
-            (issue(2), None),
-            (take(2, 0, Request), None),
-            (take(0, 2, Reply), None),
-        ],
+        &ONE_LINK,
+        &one_link_steps(),
         &[
             entry(1, 0, Load, 0, 0),
             entry(2, 0, Load, 0, 0),

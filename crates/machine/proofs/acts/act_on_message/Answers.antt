@@ -38,5 +38,6 @@ returns-clause-ok g c =
     let there = node-there c.args.cfg (charge_in faces) face c.args.nodes.now.items c.args.dst c.index.result.now c.index.result.now c.requires.nodes c.requires.to c.index.ensures in
     let want : c.want.result ≡ (share_in c.args.cfg faces c.args.dst).want = c.want.ensures.value ∙ ap (λ (p : ProcView). p.want) c.proc.ensures ∙ ap (λ (s : Share). s.want) (sym (share_in-at c.args.cfg faces c.args.dst (face c.index.result.now) there)) in
     take-act (charge_in faces) c.args.cfg faces faces' lane c.requires.nodes c.args.src c.args.dst c.args.class c.args.victim c.in-Some.msg (rest_of here) (front-is here c.in-Some.msg (sym c.in-Some.ensures.value)) c.do_take.new.out.list
-    (record { node = c.args.dst; effect = c.in_ok-effect.effect; taken = Some c.in-Some.msg; marked = c.is_marked_load-marked.result }) refl c.requires.to c.in_ok-effect.ensures.ok refl
+    (record { node = c.args.dst; done = c.is_some.result; entry = c.entry_served.result; takes = c.take_marks.result; departs = c.is_departure.result; marked = c.is_marked_load-marked.result }) c.in_ok-effect.effect refl c.requires.to c.in_ok-effect.ensures.ok
+    (record { done_is = c.is_some.ensures; entry_is = c.entry_served.ensures }) c.take_marks.ensures c.is_departure.ensures
     (c.is_marked_load-marked.ensures ∙ ap (λ w. is_marked_put c.args.cfg c.args.dst w c.in-Some.msg) want)

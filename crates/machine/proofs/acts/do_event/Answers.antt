@@ -24,7 +24,7 @@ returns-in-Hit-clause-ok g c =
     let lane = (g.Q.Lanes.meaning c.args.lanes.now).lane in
     subst (λ (e : Event). IfOk c.act_alone.result (λ made. IsAct (charge_in faces) c.args.cfg faces faces' lane e c.act_alone.new.out.list made)) (sym c.in-Hit.is)
     (IfOk-weaker c.act_alone.result (λ made. IsAlone c.args.cfg faces faces' c.in-Hit.node (input_of own.Hit true) c.act_alone.new.out.list made) (λ made. IsAct (charge_in faces) c.args.cfg faces faces' lane (Hit c.in-Hit.node) c.act_alone.new.out.list made)
-    (λ made alone. own-act (charge_in faces) c.args.cfg faces faces' lane c.requires.nodes (Hit c.in-Hit.node) c.in-Hit.node own.Hit true c.act_alone.new.out.list made refl refl refl refl (subst (IsEventOf c.args.cfg) c.in-Hit.is c.requires.of_machine) alone) c.act_alone.ensures.ok)
+    (λ made alone. own-act (charge_in faces) c.args.cfg faces faces' lane c.requires.nodes (Hit c.in-Hit.node) c.in-Hit.node own.Hit true c.act_alone.new.out.list made refl refl refl refl tt (subst (IsEventOf c.args.cfg) c.in-Hit.is c.requires.of_machine) alone) c.act_alone.ensures.ok)
 
 pub returns-in-Hit-clause-err : goal.returns-in-Hit-clause-err
 returns-in-Hit-clause-err g c =
@@ -44,7 +44,7 @@ returns-in-Issue-clause-ok g c =
     let lane = (g.Q.Lanes.meaning c.args.lanes.now).lane in
     subst (λ (e : Event). IfOk c.act_alone-in-Issue.result (λ made. IsAct (charge_in faces) c.args.cfg faces faces' lane e c.act_alone-in-Issue.new.out.list made)) (sym c.in-Issue.is)
     (IfOk-weaker c.act_alone-in-Issue.result (λ made. IsAlone c.args.cfg faces faces' c.in-Issue.node (input_of own.Issue true) c.act_alone-in-Issue.new.out.list made) (λ made. IsAct (charge_in faces) c.args.cfg faces faces' lane (Issue c.in-Issue.node) c.act_alone-in-Issue.new.out.list made)
-    (λ made alone. own-act (charge_in faces) c.args.cfg faces faces' lane c.requires.nodes (Issue c.in-Issue.node) c.in-Issue.node own.Issue true c.act_alone-in-Issue.new.out.list made refl refl refl refl (subst (IsEventOf c.args.cfg) c.in-Issue.is c.requires.of_machine) alone) c.act_alone-in-Issue.ensures.ok)
+    (λ made alone. own-act (charge_in faces) c.args.cfg faces faces' lane c.requires.nodes (Issue c.in-Issue.node) c.in-Issue.node own.Issue true c.act_alone-in-Issue.new.out.list made refl refl refl refl tt (subst (IsEventOf c.args.cfg) c.in-Issue.is c.requires.of_machine) alone) c.act_alone-in-Issue.ensures.ok)
 
 pub returns-in-Issue-clause-err : goal.returns-in-Issue-clause-err
 returns-in-Issue-clause-err g c =
@@ -68,7 +68,7 @@ returns-in-Evict-clause-ok g c =
     let is = ap (λ r. act c.in-Evict.node none_off (in_state (charge_in faces) c.args.cfg faces faces' lane c.requires.nodes c.in-Evict.node (input_of (own.Evict c.in-Evict.line c.in-Evict.kind) r))) (sym room_is) in
     subst (λ (e : Event). IfOk c.act_alone-in-Evict.result (λ made. IsAct (charge_in faces) c.args.cfg faces faces' lane e c.act_alone-in-Evict.new.out.list made)) (sym c.in-Evict.is)
     (IfOk-weaker c.act_alone-in-Evict.result (λ made. IsAlone c.args.cfg faces faces' c.in-Evict.node (input_of (own.Evict c.in-Evict.line c.in-Evict.kind) (nat_lt c.evictions.result c.evicts.result)) c.act_alone-in-Evict.new.out.list made) (λ made. IsAct (charge_in faces) c.args.cfg faces faces' lane (Evict c.in-Evict.node c.in-Evict.line c.in-Evict.kind) c.act_alone-in-Evict.new.out.list made)
-    (λ made alone. own-act (charge_in faces) c.args.cfg faces faces' lane c.requires.nodes (Evict c.in-Evict.node c.in-Evict.line c.in-Evict.kind) c.in-Evict.node (own.Evict c.in-Evict.line c.in-Evict.kind) (nat_lt c.evictions.result c.evicts.result) c.act_alone-in-Evict.new.out.list made is refl refl refl (let e = subst (IsEventOf c.args.cfg) c.in-Evict.is c.requires.of_machine in e.0) alone) c.act_alone-in-Evict.ensures.ok)
+    (λ made alone. own-act (charge_in faces) c.args.cfg faces faces' lane c.requires.nodes (Evict c.in-Evict.node c.in-Evict.line c.in-Evict.kind) c.in-Evict.node (own.Evict c.in-Evict.line c.in-Evict.kind) (nat_lt c.evictions.result c.evicts.result) c.act_alone-in-Evict.new.out.list made is refl refl refl tt (let e = subst (IsEventOf c.args.cfg) c.in-Evict.is c.requires.of_machine in e.0) alone) c.act_alone-in-Evict.ensures.ok)
 
 pub returns-in-Evict-clause-err : goal.returns-in-Evict-clause-err
 returns-in-Evict-clause-err g c =
@@ -93,7 +93,7 @@ returns-in-Reclaim-clause-ok g c =
     let is = ap (λ n. act n none_off (in_state (charge_in faces) c.args.cfg faces faces' lane c.requires.nodes n (input_of (own.Reclaim c.in-Reclaim.line) true))) (sym c.home_of-home.ensures.value) in
     subst (λ (e : Event). IfOk c.act_alone-in-Reclaim.result (λ made. IsAct (charge_in faces) c.args.cfg faces faces' lane e c.act_alone-in-Reclaim.new.out.list made)) (sym c.in-Reclaim.is)
     (IfOk-weaker c.act_alone-in-Reclaim.result (λ made. IsAlone c.args.cfg faces faces' c.home_of-home.result (input_of (own.Reclaim c.in-Reclaim.line) true) c.act_alone-in-Reclaim.new.out.list made) (λ made. IsAct (charge_in faces) c.args.cfg faces faces' lane (Reclaim c.in-Reclaim.line) c.act_alone-in-Reclaim.new.out.list made)
-    (λ made alone. own-act (charge_in faces) c.args.cfg faces faces' lane c.requires.nodes (Reclaim c.in-Reclaim.line) c.home_of-home.result (own.Reclaim c.in-Reclaim.line) true c.act_alone-in-Reclaim.new.out.list made is refl refl refl c.home_of-home.ensures.below alone) c.act_alone-in-Reclaim.ensures.ok)
+    (λ made alone. own-act (charge_in faces) c.args.cfg faces faces' lane c.requires.nodes (Reclaim c.in-Reclaim.line) c.home_of-home.result (own.Reclaim c.in-Reclaim.line) true c.act_alone-in-Reclaim.new.out.list made is refl refl refl tt c.home_of-home.ensures.below alone) c.act_alone-in-Reclaim.ensures.ok)
 
 pub returns-in-Reclaim-clause-err : goal.returns-in-Reclaim-clause-err
 returns-in-Reclaim-clause-err g c =

@@ -9,10 +9,10 @@ use Rattle.op_model.specs.MessageWords.{IsMsgOf, words_behind}
 use Rattle.op_model.specs.Messages.{msg_content}
 use Rattle.op_model.specs.Events.Node.{TakeFrom}
 use Rattle.machine.specs.Kept.{charge_in}
-use Rattle.machine.specs.Acts.{IsDoneAt, IsRefusedAt}
+use Rattle.machine.specs.Acts.{IsDoneAt, IsRefusedAt, FillsLine}
 use Rattle.node_share.specs.Effects.{Acts}
 use Rattle.machine.specs.Faces.{face_of, dir_of, outcome_at}
-use Rattle.machine.proofs.Doing.{node-there, meets-at-node, sends-room, done-at, refused-at}
+use Rattle.machine.proofs.Doing.{node-there, meets-at-node, sends-room, done-at, refused-at, fills-line}
 use Rattle.machine.proofs.acts.do_take.Goals as goal
 
 pub take-done-requires-clause-src : goal.take-done-requires-clause-src
@@ -64,6 +64,18 @@ returns-clause-ok g c =
     IfOk-weaker c.take-done.result (λ effect. Acts old.number old.program old.share.place brought (outcome_at (face old) input) new.share c.args.out.now c.take-done.new.out effect) (λ effect. IsDoneAt c.args.cfg faces (map face (set c.args.nodes.now.items c.args.dst new)) c.args.dst input c.take-done.new.out.list effect)
     (λ effect acts. subst (λ fs. IsDoneAt c.args.cfg faces fs c.args.dst input c.take-done.new.out.list effect) (sym (map-set face c.args.nodes.now.items c.args.dst new))
     (done-at c.args.cfg (charge_in faces) faces c.args.dst (face old) there is (face new) input brought c.args.out.now c.take-done.new.out effect c.requires.nothing c.number-kept.ensures.kept (ap face c.take-done.ensures.kept) acts)) c.take-done.ensures.done
+
+pub returns-clause-words : goal.returns-clause-words
+returns-clause-words g c =
+    let face = face_of {D = g.row.D.Denot} in
+    let faces = map face c.args.nodes.now.items in
+    let old = c.index_mut-node.result.now in
+    let new = c.take-done.new.self in
+    let there = node-there c.args.cfg (charge_in faces) face c.args.nodes.now.items c.args.dst old old c.requires.nodes c.requires.to c.index_mut-node.ensures.value in
+    let is = c.requires.nodes.each c.args.dst (face old) there in
+    let brought = words_behind (msg_content c.args.msg.now) in
+    IfOk-weaker c.take-done.result (λ effect. Acts old.number old.program old.share.place brought (outcome_at (face old) (TakeFrom c.args.src c.args.msg.now c.args.victim)) new.share c.args.out.now c.take-done.new.out effect) (λ effect. FillsLine c.args.cfg effect.served)
+    (λ effect. fills-line c.args.cfg (charge_in faces) faces c.args.dst (face old) there is c.args.src c.args.msg.now c.args.victim brought c.args.out.now c.take-done.new.out (face new) effect c.told_sizes.ensures c.requires.to c.requires.from c.requires.message c.number-kept.ensures.kept c.number-kept.ensures.fits) c.take-done.ensures.done
 
 pub returns-clause-dirs : goal.returns-clause-dirs
 returns-clause-dirs g c =

@@ -1,0 +1,4 @@
+pub mod Puts
+pub mod Messages
+pub mod States
+pub mod Stories
