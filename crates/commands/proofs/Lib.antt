@@ -5,3 +5,4 @@ pub mod Filters
 pub mod Programs
 pub mod FreshDirs
 pub mod Started
+pub mod Followed

@@ -10,7 +10,7 @@ use Rattle.seeded_laws.specs.Answers.{IsWholeHistory}
 use Rattle.seeded_laws.specs.Command.{IsSeededRun}
 use Rattle.schedule.specs.Runs.{HasOnlyRun}
 use Rattle.trace_text.specs.Traces.{IsTrace}
-use Rattle.commands.specs.declared.command.Command.TheVariants.{Seeded}
+use Rattle.command_words.specs.declared.command.Play.TheVariants.{Seeded}
 use Rattle.commands.specs.Runs.{machine_at_start, IsPlayed}
 
 -- a trace's operations are at nodes of its machine and on its words

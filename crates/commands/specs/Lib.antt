@@ -1,3 +1,3 @@
-pub mod Words
 pub mod Steps
 pub mod Runs
+pub mod Journaled

@@ -11,8 +11,8 @@ use Rattle.op_model.specs.Run.Schedules.{IsSerial}
 use Rattle.seeded_laws.specs.Command.{IsSeededRun}
 use Rattle.dir_report.specs.Machines.{report_of}
 use Rattle.dir_report.specs.Summaries.{summary_text}
-use Rattle.commands.specs.declared.command.Command.{Command}
-use Rattle.commands.specs.declared.command.Command.TheVariants.{Serial, Seeded, Replay, Gen}
+use Rattle.command_words.specs.declared.command.Play.{Play}
+use Rattle.command_words.specs.declared.command.Play.TheVariants.{Serial, Seeded, Replay, Gen}
 use Rattle.commands.specs.declared.replaying.ReplayError.{ReplayError}
 use Rattle.commands.specs.declared.replaying.ReplayError.TheVariants as error
 use Rattle.commands.specs.Steps.{IsRefusedAt}
@@ -34,7 +34,7 @@ pub record IsSeededWhole (charge : Charge) (seed : ℕ) (trace : Trace) (events 
   pub whole : IsWhole trace past
 
 -- which events a command makes: those of a schedule, or the trace's own steps
-abbrev pub AreEventsFor : Command → Charge → Trace → List Event → Past → Type 0
+abbrev pub AreEventsFor : Play → Charge → Trace → List Event → Past → Type 0
 AreEventsFor Serial charge trace events past = IsSerialRun charge trace events past
 AreEventsFor (Seeded seed) charge trace events past = IsSeededWhole charge seed trace events past
 AreEventsFor Replay charge trace events past = events ≡ trace.steps
@@ -49,32 +49,32 @@ abbrev pub machine_at_start : Charge → Trace → MachineRun
 machine_at_start charge trace = machine_after charge trace [] (start trace.sizes)
 
 -- what a command writes of a run: its report, or its summary
-abbrev pub text_for : Command → Trace → MachineRun → List ℕ
+abbrev pub text_for : Play → Trace → MachineRun → List ℕ
 text_for (Gen count seed) trace m = summary_text m
-text_for command trace m = report_of trace.version m
+text_for play trace m = report_of trace.version m
 
 -- The text is that of the command's run of the trace: the events run from the start, each enabled at its place, and the completed
 -- operations are one history of one flat memory
-pub record IsOutput (command : Command) (charge : Charge) (trace : Trace) (text : List ℕ) : Type 0 where
+pub record IsOutput (play : Play) (charge : Charge) (trace : Trace) (text : List ℕ) : Type 0 where
   pub events : List Event
   pub past : Past
-  pub made : AreEventsFor command charge trace events past
+  pub made : AreEventsFor play charge trace events past
   pub ran : run charge trace events ≡ Some past
   pub one : IsOneHistory charge trace events past
-  pub printed : text ≡ text_for command trace (machine_after charge trace events past)
+  pub printed : text ≡ text_for play trace (machine_after charge trace events past)
 
 -- a command that runs the trace's own steps comes to one that isn't enabled: the first such step, with its first cause
-abbrev pub IsRefusedIn : Command → Charge → Trace → ℕ → Cause → Type 0
+abbrev pub IsRefusedIn : Play → Charge → Trace → ℕ → Cause → Type 0
 IsRefusedIn Replay charge trace step cause = IsRefusedAt (machine_at_start charge trace) trace.steps step cause
-IsRefusedIn command charge trace step cause = ⊥
+IsRefusedIn play charge trace step cause = ⊥
 
 -- why there is no text. Want of memory says nothing of the trace
-abbrev pub IsStoppedIn : Command → Charge → Trace → ReplayError → Type 0
-IsStoppedIn command charge trace (error.NotEnabled step cause) = IsRefusedIn command charge trace step cause
-IsStoppedIn command charge trace error.Memory = Unit {0}
+abbrev pub IsStoppedIn : Play → Charge → Trace → ReplayError → Type 0
+IsStoppedIn play charge trace (error.NotEnabled step cause) = IsRefusedIn play charge trace step cause
+IsStoppedIn play charge trace error.Memory = Unit {0}
 
 -- a machine has made the run of a command
-pub record IsPlayed (command : Command) (trace : Trace) (charge : Charge) (m : MachineRun) : Type 0 where
+pub record IsPlayed (play : Play) (trace : Trace) (charge : Charge) (m : MachineRun) : Type 0 where
   pub is : m ≡ machine_after charge trace m.events m.past
-  pub made : AreEventsFor command charge trace m.events m.past
+  pub made : AreEventsFor play charge trace m.events m.past
   pub ran : run charge trace m.events ≡ Some m.past

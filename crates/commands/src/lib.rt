@@ -1,13 +1,13 @@
 //! What each command makes of a trace: its run, and the text of the run.
 #![tactic(auto)]
 
-mod command;
+mod journaled;
 mod machines;
 mod playable;
 mod playing;
 mod replaying;
 mod texts;
 
-pub use command::Command;
+pub use journaled::journal_output;
 pub use replaying::ReplayError;
-pub use texts::{command_text, command_text_over};
+pub use texts::{bits_text, command_text, command_text_over};

@@ -7,12 +7,21 @@ use dir_report::Reported;
 use lane_queues::Lanes;
 use machine::Machine1;
 use machine_face::MachineFace;
+use op_model::Event;
 
 /// A machine that is driven through a run, and whose report is of that run.
 pub trait Playable: MachineFace + Reported {
+    /// The events that the machine has made, in their order.
+    fn events(&self) -> &[Event]
+        ensures { result.now ≡ (Self.MachineFace.meaning self.now).events };
+
     ghost same: { (m : Self) → Self.Reported.meaning m ≡ Self.MachineFace.meaning m };
 }
 
 impl<D: Sharers, Q: Lanes> Playable for Machine1<D, Q> {
     ghost same = { λ m. refl };
+
+    fn events(&self) -> &[Event] {
+        Machine1::events(self)
+    }
 }

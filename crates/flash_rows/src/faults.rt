@@ -119,7 +119,9 @@ fn failing_err(rt: HostRuntime) -> Result<(), Fail> {
         assert_eq!(rt; ended.code, 1);
         assert_eq!(rt;
             Some(ended.told.as_slice()),
-            b"flash: usage: serial, seeded S, replay, gen K S\n".get(..10 * failing)
+            b"flash: usage: serial, seeded S, replay, run, gen K S, check, bits serial, bits replay\n".get(
+                ..10 * failing
+            )
         );
     }
     Ok(())

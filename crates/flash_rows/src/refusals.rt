@@ -137,6 +137,29 @@ fn halts(rt: HostRuntime) -> Result<(), Fail> {
     Ok(())
 }
 
+/// Over bit vectors no Get asks for a line to be called in.
+#[test]
+fn bits_ask_for_no_victim(rt: HostRuntime) -> Result<(), Fail> {
+    let alloc = rt.alloc();
+    let input = trace(
+        alloc,
+        "flash 1",
+        &[3, 2, 1, 1, 2, 1, 1],
+        "1 L 0x0; 2 L 0x0; 1 L 0x8; 2 L 0x8",
+        Some(
+            "i 1; t 1 0 q -; t 0 1 r -; i 2; t 2 0 q -; t 0 2 r -; i 1; t 1 0 q -; t 0 1 r -; i 2; t 2 0 q 0",
+        ),
+    )?;
+    let ended = ends(alloc, "bits replay", input.as_bytes())?;
+    assert_eq!(rt;
+        ended.told.as_slice(),
+        b"flash: step 11: VictimUnasked\n".as_slice()
+    );
+    assert_eq!(rt; ended.output.as_slice(), b"".as_slice());
+    assert_eq!(rt; ended.code, 6);
+    Ok(())
+}
+
 /// A bad trace: its lines, and what is told. Lines are parted by a semicolon and a space.
 struct Fault {
     lines: &'static str,
@@ -249,7 +272,7 @@ fn skipped_lines(rt: HostRuntime) -> Result<(), Fail> {
 }
 
 /// Words that are no form of a command.
-const MISUSES: [&str; 16] = [
+const MISUSES: [&str; 21] = [
     "",
     "serial serial",
     "seeded",
@@ -266,6 +289,11 @@ const MISUSES: [&str; 16] = [
     "gen 1 x",
     "gen 1 1 1",
     "gen +1 1",
+    "check 1",
+    "checks",
+    "bits",
+    "bits gen",
+    "bits seeded 1",
 ];
 
 #[test]
@@ -278,7 +306,7 @@ fn words(rt: HostRuntime) -> Result<(), Fail> {
         assert_eq!(rt; ended.output.as_slice(), b"".as_slice());
         assert_eq!(rt;
             ended.told.as_slice(),
-            b"flash: usage: serial, seeded S, replay, gen K S\n".as_slice()
+            b"flash: usage: serial, seeded S, replay, run, gen K S, check, bits serial, bits replay\n".as_slice()
         );
     }
     Ok(())

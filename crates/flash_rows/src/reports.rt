@@ -22,7 +22,7 @@ const TWO: &str = "0 pending 0 held 0 free 1; 1 pending 0 held 0 free 1";
 const THREE: &str =
     "0 pending 0 held 0 free 1; 1 pending 0 held 0 free 1; 2 pending 0 held 0 free 1";
 
-const ROWS: [Row; 31] = [
+const ROWS: [Row; 33] = [
     // No operation.
     Row {
         words: "serial",
@@ -204,6 +204,32 @@ const ROWS: [Row; 31] = [
         lines: "0 - dirty get:2 1,2; 1 - dirty idle 1",
         homes: "0 pending 1 held 1 free 0; 1 pending 0 held 0 free 1; 2 pending 0 held 0 free 1; 3 pending 0 held 0 free 1",
         counts: "events 10; issues 4; take-get 2; take-getx 2; take-putx 2; nak-nolink 1",
+    },
+    // Want of a link, over bit vectors: no link is wanted.
+    Row {
+        words: "bits serial",
+        version: 1,
+        sizes: [3, 2, 1, 1, 2, 1, 1],
+        ops: "1 L 0x0; 2 L 0x0; 1 L 0x8; 2 L 0x8",
+        steps: None,
+        history: "1 0 L 0x0 0; 2 0 L 0x0 0; 1 1 L 0x8 0; 2 1 L 0x8 0",
+        lines: "0 - clean idle 1,2; 1 - clean idle 1,2",
+        homes: THREE,
+        counts: "events 12; issues 4; take-get 4; take-put 4",
+    },
+    // A full budget over bit vectors, with one link, which nobody takes.
+    Row {
+        words: "bits replay",
+        version: 1,
+        sizes: [4, 2, 1, 1, 2, 1, 1],
+        ops: "1 S 0x0 1; 1 S 0x8 2; 2 L 0x0; 3 L 0x8",
+        steps: Some(
+            "i 1; t 1 0 q -; t 0 1 r -; i 1; t 1 0 q -; t 0 1 r -; i 2; t 2 0 q -; i 3; t 3 0 q -; t 0 1 q -; t 1 2 r -; t 1 0 r -; t 0 3 r -; i 3; t 3 0 q -; t 0 1 q -; t 1 0 r -; t 1 3 r -",
+        ),
+        history: "1 0 S 0x0 1; 1 1 S 0x8 2; 2 0 L 0x0 1; 3 0 L 0x8 2",
+        lines: "0 - clean idle 1,2; 1 - clean idle 1,3",
+        homes: "0 pending 0 held 0 free 1; 1 pending 0 held 0 free 1; 2 pending 0 held 0 free 1; 3 pending 0 held 0 free 1",
+        counts: "events 19; issues 5; take-get 3; take-getx 2; take-fwdget 2; take-put 2; take-putx 2; take-nak 1; take-shwb 2; nak-budget 1",
     },
     // Steps that are none.
     Row {

@@ -22,7 +22,7 @@ none-of : (node : ℕ) (ops : List Op) → ((i : ℕ) (op : Op) → slice_get op
 none-of node [] other = refl
 none-of node (op ∷ ops) other = let no = ne_eqb op.node node (other 0 op refl) in rw no (none-of node ops (λ i. other (suc i)))
 
-same-program : (trace : Trace) (node : ℕ) → IsTrace trace → programs_of (program_list trace) node ≡ program trace node
+pub same-program : (trace : Trace) (node : ℕ) → IsTrace trace → programs_of (program_list trace) node ≡ program trace node
 same-program trace node is = go (cases_lt node trace.sizes.nodes)
   where
     long : length (program_list trace) ≡ trace.sizes.nodes

@@ -1,4 +1,4 @@
-use Rattle.commands.proofs.playing.play.Given as goal
+use Rattle.commands.proofs.playing.make_run.Given as goal
 
 abbrev pub ghosts-counted : goal.ghosts-counted
 ghosts-counted g a = record { name = a.blank.name; parts = a.blank.parts }

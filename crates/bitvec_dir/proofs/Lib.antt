@@ -1,0 +1,4 @@
+pub mod Frees
+pub mod Acts
+pub mod Runs
+pub mod Refusing
