@@ -1,7 +1,7 @@
 //! The program `flash`.
 #![tactic(auto)]
 
-use flash_top::{StdSink, StdSource, plain_main};
+use flash_top::{NoGate, StdSink, StdSource, run_main};
 use std::alloc::{AllocError, Global};
 use std::env::{self, Args};
 use std::io::{self, ErrorKind};
@@ -37,6 +37,14 @@ fn main(rt: HostRuntime) -> ExitCode {
     let mut source = StdSource::new(rt.stdin());
     let mut sink = StdSink::new(rt.stdout());
     let mut err = StdSink::new(rt.stderr());
-    let status = plain_main(rt.alloc(), &words, &mut source, &mut sink, &mut err);
+    let status = run_main(
+        &rt,
+        rt.alloc(),
+        &words,
+        &mut source,
+        &mut sink,
+        &mut err,
+        &NoGate,
+    );
     ExitCode::from(status.code())
 }

@@ -1,8 +1,9 @@
 -- What each status means: of the words, of the bytes that come in and of the bytes that go out.
-use Rattle.std.specs.Prelude.{◌≡◌, ℕ, ◌+◌, ◌^◌, ◌≤◌, List, length, Option, Some, None, Ok, Err}
+use Rattle.std.specs.Prelude.{◌≡◌, ℕ, ◌+◌, ◌^◌, ◌≤◌, Bool, true, false, List, [], ◌∷◌, codes, length, Option, Some, None, Ok, Err}
+use Rattle.std.specs.Str.{bytes_eq}
 use Rattle.std.specs.Io.KnownBytes.{Appends, Consumes}
 use Rattle.op_model.specs.declared.events.Cause.{Cause}
-use Rattle.op_model.specs.Shares.{Trace, Linked}
+use Rattle.op_model.specs.Shares.{Trace, Charge, Linked, Unlinked}
 use Rattle.byte_io.specs.Faults.{raised}
 use Rattle.byte_io.specs.Moves.{ReadsAll, ReadsUntil, AppendsPart}
 use Rattle.byte_io.specs.declared.moves.ReadStop.{ReadStop}
@@ -11,14 +12,22 @@ use Rattle.trace_text.specs.declared.fault.TraceError.{TraceError}
 use Rattle.trace_text.specs.declared.fault.TraceError.TheVariants as error
 use Rattle.trace_text.specs.Generated.{generated}
 use Rattle.trace_text.specs.Reading.{trace_of}
-use Rattle.commands.specs.declared.command.Command.{Command}
-use Rattle.commands.specs.declared.command.Command.TheVariants.{Gen}
+use Rattle.check_command.specs.declared.refusal.CheckRefusal.{CheckRefusal}
+use Rattle.check_command.specs.declared.refusal.CheckRefusal.TheVariants as check
+use Rattle.check_command.specs.Checked.{IsChecked, IsUncheckable}
+use Rattle.command_words.specs.declared.command.Command.{Command}
+use Rattle.command_words.specs.declared.command.Command.TheVariants as asked
+use Rattle.command_words.specs.declared.command.Lists.{Lists}
+use Rattle.command_words.specs.declared.command.Lists.TheVariants as lists
+use Rattle.command_words.specs.declared.command.Play.{Play}
+use Rattle.command_words.specs.declared.command.Play.TheVariants.{Gen}
+use Rattle.command_words.specs.Words.{command_of}
 use Rattle.commands.specs.declared.replaying.ReplayError.{ReplayError}
 use Rattle.commands.specs.declared.replaying.ReplayError.TheVariants as replay
 use Rattle.commands.specs.Runs.{IsOutput, IsRefusedIn}
-use Rattle.commands.specs.Words.{command_of}
+use Rattle.run_text.specs.Runs.{IsRunOutput}
 use Rattle.flash_top.specs.declared.status.Status.{Status}
-use Rattle.flash_top.specs.declared.status.Status.TheVariants.{Done, Usage, BadTrace, TooLong, TooManyOps, TooManySteps, ReadFault, WriteFault, Memory, NotEnabled}
+use Rattle.flash_top.specs.declared.status.Status.TheVariants.{Done, Usage, BadTrace, TooLong, TooManyOps, TooManySteps, ReadFault, WriteFault, Memory, NotEnabled, IllegalHistory}
 
 -- what a call saw of its source: the bytes that are left, where they are told, and the count of faults, before and after it
 pub record SourceSeen : Type 0 where
@@ -57,74 +66,105 @@ Stopped source cause = ReadsUntil source.left_before source.left_after source.fa
 abbrev pub Came : SourceSeen → List ℕ → Type 0
 Came source bytes = ReadsAll source.left_before source.left_after bytes × (source.faults_after ≡ source.faults_before)
 
--- all bytes came, and they are this trace
-pub record Reads (source : SourceSeen) (trace : Trace) : Type 0 where
+-- all bytes came, and this is so of them
+pub record Reads (source : SourceSeen) (Says : List ℕ → Type 0) : Type 0 where
   pub bytes : List ℕ
   pub came : Came source bytes
-  pub spelled : trace_of bytes ≡ Ok trace
+  pub said : Says bytes
 
--- all bytes came, and they are refused so
-pub record IsRefused (source : SourceSeen) (fault : TraceError) : Type 0 where
-  pub bytes : List ℕ
-  pub came : Came source bytes
-  pub refused : trace_of bytes ≡ Err fault
-
--- The trace that a command runs: `gen` generates it and reads nothing, and each other command reads it
-abbrev pub IsInput : Command → SourceSeen → Trace → Type 0
+-- The trace that a command plays: `gen` generates it and reads nothing, and each other command reads it
+abbrev pub IsInput : Play → SourceSeen → Trace → Type 0
 IsInput (Gen count seed) source trace = IsUnread source × (trace ≡ generated count seed)
-IsInput command source trace = Reads source trace
+IsInput play source trace = Reads source (λ bytes. trace_of bytes ≡ Ok trace)
 
--- a trace that is read came to nothing, and so the call ended
-abbrev pub IsUnreadable : Status → SourceSeen → Type 0
-IsUnreadable (BadTrace line cause) source = IsRefused source (error.Bad line cause)
-IsUnreadable TooManyOps source = IsRefused source error.TooManyOps
-IsUnreadable TooManySteps source = IsRefused source error.TooManySteps
-IsUnreadable TooLong source = Stopped source stop.TooLong
-IsUnreadable ReadFault source = Stopped source stop.Fault
-IsUnreadable Memory source = TakesAtMost source (2 ^ 24 + 1)
-IsUnreadable status source = ⊥
+-- linked lists cost links, and bit vectors none
+abbrev pub charge_of : Lists → Charge
+charge_of lists.Linked = Linked
+charge_of lists.Bits = Unlinked
 
--- the same of a command's trace. A generated one comes to nothing for want of memory alone
+-- the command's trace is played over lists of this kind, and this is the text of its run
+pub record PlaysText (play : Play) (kind : Lists) (source : SourceSeen) (text : List ℕ) : Type 0 where
+  pub trace : Trace
+  pub input : IsInput play source trace
+  pub right : IsOutput play (charge_of kind) trace text
+
+-- what a command writes of what its source had
+abbrev pub IsTextOf : Command → SourceSeen → List ℕ → Type 0
+IsTextOf (asked.Play play kind) source text = PlaysText play kind source text
+IsTextOf asked.Check source text = Reads source (λ bytes. IsChecked bytes text)
+
+-- What is read came to nothing, and so the call ended: reading stopped, or the bytes that came are refused for this fault
+abbrev pub IsUnreadable : (TraceError → List ℕ → Type 0) → Status → SourceSeen → Type 0
+IsUnreadable Refuses (BadTrace line cause) source = Reads source (Refuses (error.Bad line cause))
+IsUnreadable Refuses TooManyOps source = Reads source (Refuses error.TooManyOps)
+IsUnreadable Refuses TooManySteps source = Reads source (Refuses error.TooManySteps)
+IsUnreadable Refuses TooLong source = Stopped source stop.TooLong
+IsUnreadable Refuses ReadFault source = Stopped source stop.Fault
+IsUnreadable Refuses Memory source = TakesAtMost source (2 ^ 24 + 1)
+IsUnreadable Refuses status source = ⊥
+
+-- bytes are no trace
+abbrev pub IsNoTrace : TraceError → List ℕ → Type 0
+IsNoTrace fault bytes = trace_of bytes ≡ Err fault
+
+-- bytes are no trace with a printed history behind it
+abbrev pub IsNoReport : TraceError → List ℕ → Type 0
+IsNoReport fault bytes = IsUncheckable bytes (check.Input fault)
+
+-- a generated trace comes to nothing for want of memory alone
 abbrev pub IsGenerationOut : Status → SourceSeen → Type 0
 IsGenerationOut Memory source = IsUnread source
 IsGenerationOut status source = ⊥
 
-abbrev pub IsNoInput : Status → Command → SourceSeen → Type 0
+-- a command has no trace to play
+abbrev pub IsNoInput : Status → Play → SourceSeen → Type 0
 IsNoInput status (Gen count seed) source = IsGenerationOut status source
-IsNoInput status command source = IsUnreadable status source
+IsNoInput status play source = IsUnreadable IsNoTrace status source
 
--- the command's text of its trace was written
-pub record IsDone (command : Command) (source : SourceSeen) (sink : SinkSeen) : Type 0 where
+-- the step of this number of the command's trace is the first that isn't enabled, for this cause
+pub record IsHalted (play : Play) (kind : Lists) (source : SourceSeen) (step : ℕ) (cause : Cause) : Type 0 where
   pub trace : Trace
-  pub input : IsInput command source trace
+  pub input : IsInput play source trace
+  pub refused : IsRefusedIn play (charge_of kind) trace step cause
+
+abbrev pub IsUnplayed : Status → Play → Lists → SourceSeen → Type 0
+IsUnplayed (NotEnabled step cause) play kind source = IsHalted play kind source step cause
+IsUnplayed status play kind source = IsNoInput status play source
+
+abbrev pub IsUnchecked : Status → SourceSeen → Type 0
+IsUnchecked (IllegalHistory entry cause) source = Reads source (λ bytes. IsUncheckable bytes (check.IllegalHistory entry cause))
+IsUnchecked status source = IsUnreadable IsNoReport status source
+
+-- why a command writes no text, and so the call ended. Want of memory may come at any place before the first byte is written
+abbrev pub HasNoText : Status → Command → SourceSeen → Type 0
+HasNoText status (asked.Play play kind) source = IsUnplayed status play kind source
+HasNoText status asked.Check source = IsUnchecked status source
+
+-- a text that is so was written
+pub record IsDone (IsSo : List ℕ → Type 0) (sink : SinkSeen) : Type 0 where
   pub text : List ℕ
-  pub right : IsOutput command Linked trace text
+  pub right : IsSo text
   pub written : Appends sink.written_before sink.written_after text
   pub quiet : sink.faults_after ≡ sink.faults_before
 
--- a write failed, the count of faults rose by it alone, and only a part of that text was written, from its beginning
-pub record IsCutShort (command : Command) (source : SourceSeen) (sink : SinkSeen) : Type 0 where
-  pub trace : Trace
-  pub input : IsInput command source trace
+-- a write failed, the count of faults rose by it alone, and only a part of such a text was written, from its beginning
+pub record IsCutShort (IsSo : List ℕ → Type 0) (sink : SinkSeen) : Type 0 where
   pub text : List ℕ
-  pub right : IsOutput command Linked trace text
+  pub right : IsSo text
   pub written : AppendsPart sink.written_before sink.written_after text
   pub failed : sink.faults_after ≡ raised sink.faults_before
 
--- the step of this number of the command's trace is the first that isn't enabled, for this cause, and nothing was written
-pub record IsHalted (command : Command) (source : SourceSeen) (sink : SinkSeen) (step : ℕ) (cause : Cause) : Type 0 where
-  pub trace : Trace
-  pub input : IsInput command source trace
-  pub refused : IsRefusedIn command Linked trace step cause
-  pub unwritten : IsUnwritten sink
+-- What a status says of a call that writes a text that is so, or for some other status none. WriteFault comes only where a write failed.
+-- Usage never comes
+abbrev pub Ends : (List ℕ → Type 0) → (Status → Type 0) → Status → SinkSeen → Type 0
+Ends IsSo HasNone Usage sink = ⊥
+Ends IsSo HasNone Done sink = IsDone IsSo sink
+Ends IsSo HasNone WriteFault sink = IsCutShort IsSo sink
+Ends IsSo HasNone status sink = HasNone status × IsUnwritten sink
 
--- What a status says of a call whose words are this command. ReadFault and WriteFault come only where a read, or a write, failed. Want of
--- memory may come at any place before the first byte is written. Usage never comes
+-- What a status says of a call whose words are this command. ReadFault comes only where a read failed
 abbrev pub IsServed : Status → Command → SourceSeen → SinkSeen → Type 0
-IsServed Done command source sink = IsDone command source sink
-IsServed WriteFault command source sink = IsCutShort command source sink
-IsServed (NotEnabled step cause) command source sink = IsHalted command source sink step cause
-IsServed status command source sink = IsNoInput status command source × IsUnwritten sink
+IsServed status command source sink = Ends (IsTextOf command source) (λ other. HasNoText other command source) status sink
 
 abbrev pub IsServedFor : Status → Option Command → SourceSeen → SinkSeen → Type 0
 IsServedFor status None source sink = ⊥
@@ -134,6 +174,30 @@ IsServedFor status (Some command) source sink = IsServed status command source s
 abbrev pub IsRight : Status → List (List ℕ) → SourceSeen → SinkSeen → Type 0
 IsRight Usage words source sink = (command_of words ≡ None) × IsUnread source × IsUnwritten sink
 IsRight status words source sink = IsServedFor status (command_of words) source sink
+
+-- the trace that the source has is run in threads, and this is the text of that run
+pub record RunsText (source : SourceSeen) (text : List ℕ) : Type 0 where
+  pub trace : Trace
+  pub input : Reads source (λ bytes. trace_of bytes ≡ Ok trace)
+  pub right : IsRunOutput trace text
+
+-- what a status says of a call whose word is `run`
+abbrev pub IsRunServed : Status → SourceSeen → SinkSeen → Type 0
+IsRunServed status source sink = Ends (RunsText source) (λ other. IsUnreadable IsNoTrace other source) status sink
+
+-- the one word that names a run in threads
+abbrev pub is_run : List (List ℕ) → Bool
+is_run (word ∷ []) = bytes_eq word (codes "run")
+is_run words = false
+
+-- where words name a run in threads, and where they don't
+abbrev pub IsRightBy : Bool → Status → List (List ℕ) → SourceSeen → SinkSeen → Type 0
+IsRightBy true status words source sink = IsRunServed status source sink
+IsRightBy false status words source sink = IsRight status words source sink
+
+-- What a status says of a call with these words, where there are threads: they name a run in threads, or else it is as without threads
+abbrev pub IsRightWithThreads : Status → List (List ℕ) → SourceSeen → SinkSeen → Type 0
+IsRightWithThreads status words source sink = IsRightBy (is_run words) status words source sink
 
 abbrev pub status_of_stop : ReadStop → Status
 status_of_stop stop.Fault = ReadFault
@@ -149,3 +213,7 @@ status_of_refusal error.Memory = Memory
 abbrev pub status_of_replay : ReplayError → Status
 status_of_replay (replay.NotEnabled step cause) = NotEnabled step cause
 status_of_replay replay.Memory = Memory
+
+abbrev pub status_of_check : CheckRefusal → Status
+status_of_check (check.Input fault) = status_of_refusal fault
+status_of_check (check.IllegalHistory entry cause) = IllegalHistory entry cause

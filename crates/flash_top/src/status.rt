@@ -2,6 +2,7 @@
 
 ghost use Rattle.std.specs.Prelude.{◌≡◌};
 
+use hist_check::EntryCause;
 use op_model::Cause;
 use trace_text::TraceCause;
 
@@ -28,6 +29,8 @@ pub enum Status {
     Memory,
     /// A step of the trace isn't enabled, for its first cause. Steps count from 1.
     NotEnabled { step: u64, cause: Cause },
+    /// The printed history isn't good: its first bad entry, counted from 1, with the first cause of it.
+    IllegalHistory { entry: u64, cause: EntryCause },
 }
 
 impl Status {
@@ -46,6 +49,7 @@ impl Status {
             Status::WriteFault => 4,
             Status::Memory => 5,
             Status::NotEnabled { .. } => 6,
+            Status::IllegalHistory { .. } => 7,
         }
     }
 }

@@ -14,8 +14,12 @@ fn fixed(status: Status) -> &'static str
     ensures { result.now ≡ fixed_text status }
 {
     match status {
-        Status::Done | Status::BadTrace { .. } | Status::NotEnabled { .. } => "",
-        Status::Usage => "flash: usage: serial, seeded S, replay, gen K S\n",
+        Status::Done
+        | Status::BadTrace { .. }
+        | Status::NotEnabled { .. }
+        | Status::IllegalHistory { .. } => "",
+        Status::Usage =>
+            "flash: usage: serial, seeded S, replay, run, gen K S, check, bits serial, bits replay\n",
         Status::TooLong => "flash: more than 16777216 bytes\n",
         Status::TooManyOps => "flash: more than 100000 operations\n",
         Status::TooManySteps => "flash: more than 1000000 steps\n",
@@ -50,6 +54,12 @@ pub fn tell<F: Sink>(err: &mut F, status: Status) -> Result<(), Failed>
             err,
             "flash: step ",
             step,
+            cause.name(),
+        ),
+        Status::IllegalHistory { entry, cause } => tell_numbered(
+            err,
+            "flash: entry ",
+            entry,
             cause.name(),
         ),
         Status::Done

@@ -1,4 +1,4 @@
--- What is told of a line or a step has the name of its cause.
+-- What is told of a line, a step or an entry has the name of its cause.
 use Rattle.flash_top.proofs.tell.tell.Goals as goal
 
 pub returns-in-BadTrace-clause-whole : goal.returns-in-BadTrace-clause-whole
@@ -12,3 +12,9 @@ returns-in-NotEnabled-clause-whole g c = rw (c.in-NotEnabled.is, ← c.name-in-N
 
 pub returns-in-NotEnabled-clause-part : goal.returns-in-NotEnabled-clause-part
 returns-in-NotEnabled-clause-part g c = rw (c.in-NotEnabled.is, ← c.name-in-NotEnabled.ensures) c.tell_numbered-in-NotEnabled.ensures.part
+
+pub returns-in-IllegalHistory-clause-whole : goal.returns-in-IllegalHistory-clause-whole
+returns-in-IllegalHistory-clause-whole g c = rw (c.in-IllegalHistory.is, ← c.name-in-IllegalHistory.ensures) c.tell_numbered-in-IllegalHistory.ensures.whole
+
+pub returns-in-IllegalHistory-clause-part : goal.returns-in-IllegalHistory-clause-part
+returns-in-IllegalHistory-clause-part g c = rw (c.in-IllegalHistory.is, ← c.name-in-IllegalHistory.ensures) c.tell_numbered-in-IllegalHistory.ensures.part

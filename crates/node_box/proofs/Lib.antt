@@ -1,0 +1,14 @@
+pub mod Putting
+pub mod Acting
+pub mod Taking
+pub mod Flushing
+pub mod Opening
+pub mod Serving
+pub mod Searching
+pub mod Calling
+pub mod Ending
+pub mod Counting
+pub mod Issuing
+pub mod Leaving
+pub mod Logging
+pub mod Samples
