@@ -1,17 +1,17 @@
 -- What a report reads of a machine.
 use Rattle.std.specs.Prelude.{◌≡◌, ℕ, ◌-◌, List}
-use Rattle.op_model.specs.Shares.{pending_lines}
+use Rattle.op_model.specs.Shares.{pending_lines, held_links}
 use Rattle.op_model.specs.Run.Runs.{start}
 use Rattle.op_model.specs.Run.Counts.{Moment, moments}
 use Rattle.op_model.specs.Run.Machines.{MachineRun}
 use Rattle.dir_report.specs.declared.homes.HomeCounts.{HomeCounts}
-use Rattle.dir_report.specs.Reports.{held_by, report_text}
+use Rattle.dir_report.specs.Reports.{report_text}
 
 -- the pending lines of a home, the links that its lists hold, and the free links
 pub record IsHome (m : MachineRun) (home : ℕ) (counts : HomeCounts) : Type 0 where
   pub pending : counts.pending ≡ pending_lines (m.past.state.share home)
-  pub held : counts.held ≡ held_by m.charge (m.past.state.share home)
-  pub free : counts.free ≡ m.sizes.links - held_by m.charge (m.past.state.share home)
+  pub held : counts.held ≡ held_links m.charge (m.past.state.share home)
+  pub free : counts.free ≡ m.sizes.links - held_links m.charge (m.past.state.share home)
 
 -- the events of the run, each with the state before it and what it did
 abbrev pub moments_of : MachineRun → List Moment

@@ -7,7 +7,7 @@ use Rattle.std.specs.FinMap.{gets}
 use Rattle.line_map.specs.Sizes.{Sizes}
 use Rattle.op_model.specs.Lines.{Header, LineShare, is_pending}
 use Rattle.op_model.specs.Nodes.{listings}
-use Rattle.op_model.specs.Shares.{Charge, Share, first_header, header_of, held_links, is_linked, links_in, pending_lines, put_share, room_of, header_in}
+use Rattle.op_model.specs.Shares.{Charge, Share, first_header, header_of, links_among, is_linked, links_in, pending_lines, put_share, room_of, header_in}
 use Rattle.lane_bounds.proofs.Allowed.{IsAllowed}
 use Rattle.lane_bounds.proofs.Sums.{amount, over-insert}
 
@@ -44,11 +44,11 @@ module _ (charge : Charge) (sizes : Sizes) (share : Share) where
     unfolding put_share
     pending-after home = rw home (rw (amount-header (λ h. one_if (is_pending h)) line refl) at (over-insert (λ h. one_if (is_pending h)) share.headers line row.header))
 
-    pub links-after : at_home ≡ true → held_links next + links_in (header_of sizes share line) ≡ held_links share + links_in row.header
+    pub links-after : at_home ≡ true → links_among next.headers + links_in (header_of sizes share line) ≡ links_among share.headers + links_in row.header
     unfolding put_share
     links-after home = rw home (rw (amount-header links_in line first-links) at (over-insert links_in share.headers line row.header))
 
-    pub headers-stay : at_home ≡ false → (pending_lines next ≡ pending_lines share) × (held_links next ≡ held_links share)
+    pub headers-stay : at_home ≡ false → (pending_lines next ≡ pending_lines share) × (links_among next.headers ≡ links_among share.headers)
     unfolding put_share
     headers-stay away = rw away (refl, refl)
 
@@ -69,11 +69,11 @@ module _ (charge : Charge) (sizes : Sizes) (share : Share) where
         go true e = count-bound (is_pending (header_of sizes share line)) (is_pending row.header) sizes.pending (pending_lines next) (pending_lines share) (allowed e).pending (pending-after e) le
         go false e = let s = headers-stay e in omega (arith, s.0)
 
-    pub links-bound : (at_home ≡ true → IsAllowed (room_of charge sizes share) (header_of sizes share line) row.header) → is_linked charge ≡ true → held_links share ≤ sizes.links → held_links next ≤ sizes.links
+    pub links-bound : (at_home ≡ true → IsAllowed (room_of charge sizes share) (header_of sizes share line) row.header) → is_linked charge ≡ true → links_among share.headers ≤ sizes.links → links_among next.headers ≤ sizes.links
     links-bound allowed linked le = go at_home refl
       where
-        go : (c : Bool) → at_home ≡ c → held_links next ≤ sizes.links
-        go true e = taken-bound (links_in row.header) (links_in (header_of sizes share line)) sizes.links (held_links next) (held_links share) ((allowed e).links linked) (links-after e) le
+        go : (c : Bool) → at_home ≡ c → links_among next.headers ≤ sizes.links
+        go true e = taken-bound (links_in row.header) (links_in (header_of sizes share line)) sizes.links (links_among next.headers) (links_among share.headers) ((allowed e).links linked) (links-after e) le
         go false e = let s = headers-stay e in omega (arith, s.1)
 
     -- the header is as it was

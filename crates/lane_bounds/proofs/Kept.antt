@@ -8,7 +8,7 @@ use Rattle.line_map.specs.Sizes.{Sizes, home_of}
 use Rattle.op_model.specs.Events.Step.{departures, put_at}
 use Rattle.op_model.specs.Lines.{Outcome}
 use Rattle.op_model.specs.Messages.{Content}
-use Rattle.op_model.specs.Shares.{Charge, Lanes, Share, State, header_of, held_links, is_linked, pending_lines, put_share, room_of}
+use Rattle.op_model.specs.Shares.{Charge, Linked, Unlinked, Lanes, Share, State, header_of, held_links, links_among, is_linked, pending_lines, put_share, room_of}
 use Rattle.op_model.specs.declared.events.Class.TheVariants.{Request}
 use Rattle.op_model.specs.declared.events.Class.{Class}
 use Rattle.line_invariant.specs.Line.{addressed}
@@ -23,10 +23,19 @@ use Rattle.lane_bounds.proofs.Sends.{Elsewhere, Quiet, addressed-none}
 -- and hints than the gate lets through, and a node sends itself nothing of a line of another home
 pub record IsBounded (charge : Charge) (sizes : Sizes) (state : State) : Type 0 where
   pub pending : (n : ℕ) → pending_lines (state.share n) ≤ sizes.pending
-  pub links : is_linked charge ≡ true → (n : ℕ) → held_links (state.share n) ≤ sizes.links
+  pub links : is_linked charge ≡ true → (n : ℕ) → links_among (state.share n).headers ≤ sizes.links
   pub own : (n line : ℕ) → home_of sizes line ≢ n → fin.get (state.share n).headers line ≡ None
   pub departs : (a b : ℕ) → departures (state.lane a b Request) ≤ sizes.evicts
   pub apart : (line a : ℕ) (class : Class) → home_of sizes line ≢ a → of_line line (state.lane a a class) ≡ []
+
+-- the links that a home holds are within a number where those of its lists are, wherever lists cost links
+pub held-within : (charge : Charge) (share : Share) (n : ℕ) → (is_linked charge ≡ true → links_among share.headers ≤ n) → held_links charge share ≤ n
+held-within Linked share n within = within refl
+held-within Unlinked share n within = omega arith
+
+pub within-held : (charge : Charge) (share : Share) (n : ℕ) → held_links charge share ≤ n → is_linked charge ≡ true → links_among share.headers ≤ n
+within-held Linked share n within linked = within
+within-held Unlinked share n within linked = cc
 
 -- what a row sends fits the lanes that it goes into, and none of it goes to its own node where that isn't the home
 pub record IsMeasured (sizes : Sizes) (lane : Lanes) (node line : ℕ) (sends : List (ℕ × Content)) : Type 0 where
@@ -43,7 +52,7 @@ module _ (charge : Charge) (sizes : Sizes) (state : State) (bounded : IsBounded 
   bounded-row allowed departs apart measured =
       record {
         pending = λ n. share-at (λ p. pending_lines p ≤ sizes.pending) n (bounded.pending n) (λ _. pending-bound charge sizes (state.share node) (node == home_of sizes line) line outcome.done outcome.share allowed' (bounded.pending node));
-        links = λ linked n. share-at (λ p. held_links p ≤ sizes.links) n (bounded.links linked n) (λ _. links-bound charge sizes (state.share node) (node == home_of sizes line) line outcome.done outcome.share allowed' linked (bounded.links linked node));
+        links = λ linked n. share-at (λ p. links_among p.headers ≤ sizes.links) n (bounded.links linked n) (λ _. links-bound charge sizes (state.share node) (node == home_of sizes line) line outcome.done outcome.share allowed' linked (bounded.links linked node));
         own = λ n q far. share-at (λ p. fin.get p.headers q ≡ None) n (bounded.own n q far) (λ same. own-after charge sizes (state.share node) (node == home_of sizes line) line outcome.done outcome.share q (bounded.own node q (λ e. far (e ∙ sym same))) (which q (λ e. far (e ∙ sym same))));
         departs = λ a b. sent-at a b;
         apart = λ q a class far. line-sent q node line outcome.sends lane a a class (apart q a class far) (λ is same. ap (λ k. addressed k class outcome.sends) is ∙ measured.apart class (λ e. far (ap (home_of sizes) same ∙ e ∙ sym is)));

@@ -13,7 +13,7 @@ use Rattle.op_model.specs.Events.Step.{Done, and_then, effect}
 use Rattle.op_model.specs.Lines.{Header, is_pending}
 use Rattle.op_model.specs.Nodes.{listings}
 use Rattle.op_model.specs.Run.Runs.{Past, past_after, run, run_from, start, start_share}
-use Rattle.op_model.specs.Shares.{Charge, Linked, Trace, first_header, first_headers, held_links, links_in, pending_lines, program}
+use Rattle.op_model.specs.Shares.{Charge, Trace, first_header, first_headers, held_links, links_among, links_in, pending_lines, program}
 use Rattle.op_model.specs.declared.events.Cause.{Cause}
 use Rattle.op_model.specs.declared.events.Event.{Event}
 use Rattle.one_history.specs.Sound.{IsSound}
@@ -21,7 +21,7 @@ use Rattle.one_history.proofs.Events.{keeps-event}
 use Rattle.one_history.proofs.Runs.{sound-start}
 use Rattle.lane_bounds.proofs.Events.{bounded-event}
 use Rattle.lane_bounds.proofs.Homes.{one_if}
-use Rattle.lane_bounds.proofs.Kept.{IsBounded}
+use Rattle.lane_bounds.proofs.Kept.{IsBounded, held-within}
 use Rattle.lane_bounds.proofs.Sums.{over, over-insert}
 
 module _ (charge : Charge) (trace : Trace) (positive : 0 < trace.sizes.words) (P : Past → Type 0) (keeps : (past : Past) → IsSound trace past → P past → (event : Event) (d : Done) → effect charge trace.sizes (program trace) past.state event ≡ Ok d → P (past_after trace.sizes past d)) where
@@ -91,7 +91,7 @@ pub bounded-start : (charge : Charge) (sizes : Sizes) → IsBounded charge sizes
 bounded-start charge sizes =
     record {
       pending = λ n. let e : pending_lines (start_share sizes n) ≡ 0 = first-over sizes (λ h. one_if (is_pending h)) refl (range_with_len (n * sizes.lines) sizes.lines) in omega (arith, e);
-      links = λ linked n. let e : held_links (start_share sizes n) ≡ 0 = first-over sizes links_in (first-links sizes) (range_with_len (n * sizes.lines) sizes.lines) in omega (arith, e);
+      links = λ linked n. let e : links_among (start_share sizes n).headers ≡ 0 = first-over sizes links_in (first-links sizes) (range_with_len (n * sizes.lines) sizes.lines) in omega (arith, e);
       own = λ n line far. first-own sizes line (n * sizes.lines) sizes.lines (outside line n sizes.lines far);
       departs = λ a b. omega arith;
       apart = λ line a class far. refl;
@@ -106,5 +106,5 @@ module _ (trace : Trace) (events : List Event) (past : Past) (n : ℕ) (positive
   pub bounded_pending : (charge : Charge) → run charge trace events ≡ Some past → pending_lines (past.state.share n) ≤ trace.sizes.pending
   bounded_pending charge runs = (bounded-run charge trace events past positive runs).1.pending n
 
-  pub bounded_links : run Linked trace events ≡ Some past → held_links (past.state.share n) ≤ trace.sizes.links
-  bounded_links runs = (bounded-run Linked trace events past positive runs).1.links refl n
+  pub bounded_links : (charge : Charge) → run charge trace events ≡ Some past → held_links charge (past.state.share n) ≤ trace.sizes.links
+  bounded_links charge runs = held-within charge (past.state.share n) trace.sizes.links (λ linked. (bounded-run charge trace events past positive runs).1.links linked n)

@@ -8,16 +8,16 @@ ghost use Rattle.op_model.specs.declared.events.Class.{Class};
 ghost use Rattle.op_model.specs.declared.events.Class.TheVariants.{Request, Reply};
 ghost use Rattle.op_model.specs.declared.events.Event.{Event};
 ghost use Rattle.op_model.specs.Messages.{msg_class};
-ghost use Rattle.op_model.specs.Shares.{Trace, Charge, Linked, pending_lines, held_links};
+ghost use Rattle.op_model.specs.Shares.{Trace, Charge, pending_lines, held_links};
 ghost use Rattle.op_model.specs.Events.Step.{departures};
 ghost use Rattle.op_model.specs.Run.Runs.{Past, run};
 ghost use Rattle.op_model.specs.Run.Bounds.{request_bound, reply_bound, lane_bound};
 ghost use Rattle.lane_bounds.specs.Ways.{IsOnWay};
 
-/// No home has more pending lines than it may have; and where links are counted, its lines hold no more links than it has.
+/// No home has more pending lines than it may have, and its lines hold no more links than it has.
 pub fn every_home()
     ensures pending { (charge : Charge) (trace : Trace) (events : List Event) (past : Past) (n : ℕ) → 0 < trace.sizes.words → run charge trace events ≡ Some past → pending_lines (past.state.share n) ≤ trace.sizes.pending }
-    ensures links { (trace : Trace) (events : List Event) (past : Past) (n : ℕ) → 0 < trace.sizes.words → run Linked trace events ≡ Some past → held_links (past.state.share n) ≤ trace.sizes.links }
+    ensures links { (charge : Charge) (trace : Trace) (events : List Event) (past : Past) (n : ℕ) → 0 < trace.sizes.words → run charge trace events ≡ Some past → held_links charge (past.state.share n) ≤ trace.sizes.links }
 {}
 
 /// A lane holds a limited number of messages: one of requests at most P + 1 + E, of them at most E writebacks and hints, and one of replies at most P + 1, where P lines of a home may be pending and E is the gate on evictions. No node sends to itself.

@@ -9,7 +9,7 @@ use Rattle.std.proofs.lemmas.List.Sums.{sum_by-cons}
 use Rattle.line_map.specs.Sizes.{Sizes, set_of}
 use Rattle.op_model.specs.Nodes.{Nodes}
 use Rattle.op_model.specs.Lines.{is_empty}
-use Rattle.op_model.specs.Shares.{Charge, Linked, Unlinked, Share, copy_of, copy_in, links_among, pending_lines}
+use Rattle.op_model.specs.Shares.{Charge, Linked, Unlinked, Share, copy_of, copy_in, links_among, pending_lines, held_links}
 use Rattle.op_model.specs.Run.Schedules.{other_in_set}
 use Rattle.op_model.specs.Run.Seeded.{free_links}
 use Rattle.cpu_cache.specs.Caches.{CacheView, is_set_taken}
@@ -17,7 +17,6 @@ use Rattle.dir_header.specs.Sharers.{Directory, held_by, held_in, free_in}
 use Rattle.dir_header.specs.HomeSides.{HomeView, IsHome}
 use Rattle.op_model.specs.Run.Machines.{MachineRun}
 use Rattle.dir_report.specs.Machines.{IsHome as IsHomeCounts}
-use Rattle.dir_report.specs.Reports.{held_by as held_of}
 
 -- where one key alone passes, the first entry that passes is its
 found-one : {X : Type 0} (p : ℕ → Bool) (r : ℕ) (es : List (ℕ × X)) → ((q : ℕ) → p q ≡ true → q ≡ r) → list_any (λ e. p e.0) es ≡ true → option_map (λ e. e.0) (find (λ e. p e.0) es) ≡ Some r
@@ -97,9 +96,9 @@ home-held {D = D} dir m node home pending links free is value links_are pending_
     whole : dir.links ≡ m.sizes.links
     whole = is.links ∙ ap (λ (h : HomeView D). h.sizes.links) value
 
-    by_charge : (charge : Charge) → home.charge ≡ charge → held_in dir ≡ held_of charge (m.past.state.share node)
+    by_charge : (charge : Charge) → home.charge ≡ charge → held_in dir ≡ held_links charge (m.past.state.share node)
     by_charge Linked at = sym (is.held at) ∙ ap (λ (h : HomeView D). links_among h.headers) value
     by_charge Unlinked at = ap (λ ch. sum_by (held_by ch) dir.lists) (is.charge ∙ at) ∙ nothing-held dir.lists
 
-    held : held_in dir ≡ held_of m.charge (m.past.state.share node)
+    held : held_in dir ≡ held_links m.charge (m.past.state.share node)
     held = by_charge m.charge (ap (λ (h : HomeView D). h.charge) value)

@@ -14,7 +14,7 @@ use Rattle.op_model.specs.Nodes.{count}
 use Rattle.op_model.specs.Lines.{Header, Room, is_pending}
 use Rattle.op_model.specs.Tables.Home.{wants_victim, lacks_link}
 use Rattle.op_model.specs.Tables.Processor.{holds_link}
-use Rattle.op_model.specs.Shares.{Charge, Linked, Unlinked, Share, header_in, header_of, line_share, room_of, held_links, first_header}
+use Rattle.op_model.specs.Shares.{Charge, Linked, Unlinked, Share, header_in, header_of, line_share, room_of, links_among, first_header}
 use Rattle.op_model.specs.Messages.{msg_line, msg_content}
 use Rattle.op_model.specs.Events.Node.{NodeOutcome, TakeFrom, local, meets_row, is_get, with_victim, asks_victim, fits_victim, permit}
 use Rattle.op_model.proofs.Plain.{above_one, three_parts}
@@ -122,9 +122,9 @@ module _ (node : LinkedNode) (linked : node.charge ≡ Linked) (src : ℕ) (m : 
   none_free : IsHome (linked_directory node.dir) (home_side node) → asks node src m ≡ true → 0 < free_in (linked_directory node.dir) → ⊥
   none_free home is free =
       let full = (asks_none node.sizes node.number node.share src m is).1 in
-      let held : held_links node.share ≡ held_in (linked_directory node.dir) = home.held linked in
+      let held : links_among node.share.headers ≡ held_in (linked_directory node.dir) = home.held linked in
       let links : (linked_directory node.dir).links ≡ node.sizes.links = home.links in
-      go (held_links node.share) (held_in (linked_directory node.dir)) (linked_directory node.dir).links node.sizes.links held links full free
+      go (links_among node.share.headers) (held_in (linked_directory node.dir)) (linked_directory node.dir).links node.sizes.links held links full free
     where
       go : (a b k l : ℕ) → a ≡ b → k ≡ l → nat_lt a l ≡ false → 0 < k - b → ⊥
       go a b k l e f fails some = absurd (let y : nat_lt a l ≡ true = (let lt : a < l = omega (arith, e, f, some) in grind (arith, nat_tests)) in cc)

@@ -17,6 +17,7 @@ use Rattle.op_model.specs.OwnPart.{IsOwnLine, IsOwnPart}
 use Rattle.op_model.specs.Run.Runs.{Past, past_after, run, run_from, start, start_share}
 use Rattle.op_model.specs.Shares.{Charge, State, Trace, first_header, line_share, program}
 use Rattle.one_history.proofs.Runs.{first-copy, first-header}
+use Rattle.lane_bounds.proofs.Kept.{held-within}
 use Rattle.lane_bounds.proofs.Runs.{bounded-start}
 use Rattle.own_part.proofs.Acts.{own_act}
 
@@ -71,7 +72,7 @@ own-start charge trace node =
       outstanding = tt;
       lines = λ line home. own-first line;
       pending = bounded.pending node;
-      links = λ linked. bounded.links linked node;
+      links = held-within charge (start_share trace.sizes node) trace.sizes.links (λ linked. bounded.links linked node);
       sets = λ a b full. absurd (let e : true ≡ false = sym (ap is_empty (first-copy trace.sizes node a)) ∙ full in cc);
       headers = λ line far. bounded.own node line far;
     }

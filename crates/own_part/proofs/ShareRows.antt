@@ -14,6 +14,7 @@ use Rattle.one_history.proofs.Sets.{any-found, any-none, found}
 use Rattle.one_history.proofs.Shares.{IsOn, copy-other, copy-same, header-other, header-same, want-other, want-same}
 use Rattle.lane_bounds.proofs.Allowed.{IsAllowed}
 use Rattle.lane_bounds.proofs.Homes.{links-bound, own-after, pending-bound}
+use Rattle.lane_bounds.proofs.Kept.{held-within, within-held}
 
 -- a set is empty exactly where each line of it has no copy
 pub all-empty : (sizes : Sizes) (share : Share) (line b : ℕ) → is_set_empty sizes share line ≡ true → set_of sizes b ≡ set_of sizes line → is_empty (copy_of share b) ≡ true
@@ -138,7 +139,7 @@ module _ (charge : Charge) (sizes : Sizes) (node : ℕ) (program : List Op) (sha
           outstanding = is.begun;
           lines = line-kept;
           pending = pending-bound charge sizes share at_home line o.done row is.allowed own.pending;
-          links = λ linked. links-bound charge sizes share at_home line o.done row is.allowed linked (own.links linked);
+          links = held-within charge next_share sizes.links (λ linked. links-bound charge sizes share at_home line o.done row is.allowed linked (within-held charge share sizes.links own.links linked));
           sets = sets-kept;
           headers = headers-kept;
         }

@@ -14,7 +14,7 @@ use Rattle.op_model.specs.Events.Node.{meets_row, is_get, asks_victim, fits_vict
 use Rattle.op_model.specs.Lines.{Header, Room, is_pending, nobody_listed}
 use Rattle.op_model.specs.Messages.{msg_content, msg_line}
 use Rattle.op_model.specs.Nodes.{listed, count}
-use Rattle.op_model.specs.Shares.{Charge, is_linked, Share, header_of, first_header, line_share, room_of, links_in, held_links, header_in}
+use Rattle.op_model.specs.Shares.{Charge, is_linked, Share, header_of, first_header, line_share, room_of, links_in, links_among, header_in}
 use Rattle.op_model.specs.Tables.Home.{wants_victim}
 use Rattle.op_model.specs.Tables.Processor.{holds_link}
 use Rattle.lane_bounds.proofs.Sums.{over, over-cons}
@@ -62,7 +62,7 @@ module _ (charge : Charge) (sizes : Sizes) (share : Share) (home : ℕ) (own : K
   -- a line of this home that may be called in
   fit-line : is_linked charge ≡ true → 0 < sizes.links → (room_of charge sizes share).link_free ≡ false → (room_of charge sizes share).link_pending ≡ false → (g : ℕ) × (fits_victim charge sizes home share g ≡ true)
   fit-line linked some full calm =
-      let all : sizes.links ≤ held_links share = ltb-false (held_links share) sizes.links full in
+      let all : sizes.links ≤ links_among share.headers = ltb-false (links_among share.headers) sizes.links full in
       let held : 0 < over links_in (fin.entries share.headers) = omega arith in
       let f : Found (λ h. nat_lt 0 (links_in h)) (fin.entries share.headers) = found (λ h. nat_lt 0 (links_in h)) (fin.entries share.headers) (fin.entries_sorted share.headers) (some-entry links_in (fin.entries share.headers) held) in
       let quiet : (is_pending f.1 && nat_lt 1 (count f.1.list)) ≡ false = none-found (λ h. is_pending h && nat_lt 1 (count h.list)) (fin.entries share.headers) f.0 f.1 calm f.2 in

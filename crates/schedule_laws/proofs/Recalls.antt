@@ -13,7 +13,7 @@ use Rattle.op_model.specs.Lines.{Absent, Header, Outcome, is_empty, is_idle, is_
 use Rattle.op_model.specs.Messages.{msg_content, msg_line}
 use Rattle.op_model.specs.Run.Runs.{Past}
 use Rattle.op_model.specs.Run.Schedules.{Lane, first_busy, delivery}
-use Rattle.op_model.specs.Shares.{Charge, Linked, Lanes, Share, State, Trace, copy_of, header_of, held_links, links_in, program, put_share, room_of, share_at}
+use Rattle.op_model.specs.Shares.{Charge, Linked, Lanes, Share, State, Trace, copy_of, header_of, links_among, links_in, program, put_share, room_of, share_at}
 use Rattle.one_history.proofs.Shares.{copy-other, copy-same}
 use Rattle.lane_bounds.proofs.Acts.{after_row_of, taken_of}
 use Rattle.lane_bounds.proofs.Homes.{headers-stay, links-after}
@@ -38,7 +38,7 @@ pub record IsRecalled (sizes : Sizes) (v p : ℕ) (first state : State) : Type 0
   pub absent : (line : ℕ) → copy_of (first.share p) line ≡ Absent → copy_of (state.share p) line ≡ Absent
   pub headers : (line : ℕ) → line ≢ v → header_at sizes state line ≡ header_at sizes first line
   pub called : IsCalledIn (header_at sizes state v)
-  pub links : held_links (state.share (home_of sizes v)) + links_in (header_at sizes first v) ≡ held_links (first.share (home_of sizes v)) + links_in (header_at sizes state v)
+  pub links : links_among (state.share (home_of sizes v)).headers + links_in (header_at sizes first v) ≡ links_among (first.share (home_of sizes v)).headers + links_in (header_at sizes state v)
 
 idle-grants : (wait : Wait) → not (is_idle wait) ≡ false → grants wait ≡ 0
 idle-grants Idle e = refl
@@ -125,10 +125,10 @@ module _ (sizes : Sizes) (v p : ℕ) (first : State) (idle : (line : ℕ) → is
             subst IsCalledIn (sym (wait-other sizes state taken dst line outcome v other)) now.called
 
     -- at the taker the links change as the header of the line does
-    links-own : held_links own + links_in (header_at sizes state line) ≡ held_links (state.share dst) + links_in (header_at sizes then line)
+    links-own : links_among own.headers + links_in (header_at sizes state line) ≡ links_among (state.share dst).headers + links_in (header_at sizes then line)
     links-own = go (dst == home_of sizes line) refl
       where
-        go : (c : Bool) → (dst == home_of sizes line) ≡ c → held_links own + links_in (header_at sizes state line) ≡ held_links (state.share dst) + links_in (header_at sizes then line)
+        go : (c : Bool) → (dst == home_of sizes line) ≡ c → links_among own.headers + links_in (header_at sizes state line) ≡ links_among (state.share dst).headers + links_in (header_at sizes then line)
         go true e =
             let here : home_of sizes line ≡ dst = grind (arith, nat_tests) in
             let a = links-after Linked sizes (state.share dst) (dst == home_of sizes line) line outcome.done outcome.share e in
@@ -141,25 +141,25 @@ module _ (sizes : Sizes) (v p : ℕ) (first : State) (idle : (line : ℕ) → is
             let b : links_in (header_at sizes then line) ≡ links_in (header_at sizes state line) = ap links_in (there ∙ ap (λ c. cond c outcome.share.header (header_at sizes state line)) e) in
             omega arith
 
-    links-kept : held_links (then.share (home_of sizes v)) + links_in (header_at sizes first v) ≡ held_links (first.share (home_of sizes v)) + links_in (header_at sizes then v)
-    links-kept = at-share sizes state taken dst line outcome (λ s. held_links s + links_in (header_at sizes first v) ≡ held_links (first.share (home_of sizes v)) + links_in (header_at sizes then v)) (home_of sizes v)
+    links-kept : links_among (then.share (home_of sizes v)).headers + links_in (header_at sizes first v) ≡ links_among (first.share (home_of sizes v)).headers + links_in (header_at sizes then v)
+    links-kept = at-share sizes state taken dst line outcome (λ s. links_among s.headers + links_in (header_at sizes first v) ≡ links_among (first.share (home_of sizes v)).headers + links_in (header_at sizes then v)) (home_of sizes v)
         (λ far. away far) (λ near. home near)
       where
         -- at another node than the home of v, v's header stays
-        away : home_of sizes v ≢ dst → held_links (state.share (home_of sizes v)) + links_in (header_at sizes first v) ≡ held_links (first.share (home_of sizes v)) + links_in (header_at sizes then v)
+        away : home_of sizes v ≢ dst → links_among (state.share (home_of sizes v)).headers + links_in (header_at sizes first v) ≡ links_among (first.share (home_of sizes v)).headers + links_in (header_at sizes then v)
         away far =
             let same : header_at sizes then v ≡ header_at sizes state v = at-share sizes state taken dst line outcome (λ s. header_of sizes s v ≡ header_at sizes state v) (home_of sizes v) (λ _. refl) (λ near. absurd (far near)) in
             let a : links_in (header_at sizes then v) ≡ links_in (header_at sizes state v) = ap links_in same in
             let b = now.links in
             omega arith
 
-        home : home_of sizes v ≡ dst → held_links own + links_in (header_at sizes first v) ≡ held_links (first.share (home_of sizes v)) + links_in (header_at sizes then v)
+        home : home_of sizes v ≡ dst → links_among own.headers + links_in (header_at sizes first v) ≡ links_among (first.share (home_of sizes v)).headers + links_in (header_at sizes then v)
         home near = go (v == line) refl
           where
-            held : held_links (state.share (home_of sizes v)) ≡ held_links (state.share dst)
-            held = ap (λ n. held_links (state.share n)) near
+            held : links_among (state.share (home_of sizes v)).headers ≡ links_among (state.share dst).headers
+            held = ap (λ n. links_among (state.share n).headers) near
 
-            go : (c : Bool) → (v == line) ≡ c → held_links own + links_in (header_at sizes first v) ≡ held_links (first.share (home_of sizes v)) + links_in (header_at sizes then v)
+            go : (c : Bool) → (v == line) ≡ c → links_among own.headers + links_in (header_at sizes first v) ≡ links_among (first.share (home_of sizes v)).headers + links_in (header_at sizes then v)
             go true e =
                 let same : line ≡ v = grind (arith, nat_tests) in
                 let a = links-own in

@@ -15,7 +15,7 @@ use Rattle.op_model.specs.Operations.{is_load}
 use Rattle.op_model.specs.Run.Rest.{IsAtRest}
 use Rattle.op_model.specs.Run.Runs.{Past}
 use Rattle.op_model.specs.Run.Schedules.{make_room, other_in_set, processor_event}
-use Rattle.op_model.specs.Shares.{Charge, State, Trace, conflicts, copy_of, held_links, is_linked, links_in, program, put_share, room_of, share_at}
+use Rattle.op_model.specs.Shares.{Charge, State, Trace, conflicts, copy_of, links_among, is_linked, links_in, program, put_share, room_of, share_at}
 use Rattle.op_model.specs.Tables.Home.{lacks_link, on_get, refuse}
 use Rattle.op_model.specs.Tables.Processor.{ask, holds_link, serves}
 use Rattle.op_model.proofs.Plain.{three_parts}
@@ -134,23 +134,23 @@ module _ (charge : Charge) (trace : Trace) (usual : IsUsual trace) (next : State
     has-link = go (line == v) refl (is_linked charge) refl
       where
         go : (c : Bool) → (line == v) ≡ c → (l : Bool) → is_linked charge ≡ l → lacks_link (room_of charge sizes (end.state.share home)) p (header_at sizes end.state line) ≡ false
-        go c e false l = unlinked (is_linked charge) (listed (header_at sizes end.state line).list p) (nobody_listed (header_at sizes end.state line).list) (nat_lt (held_links (end.state.share home)) sizes.links) l
+        go c e false l = unlinked (is_linked charge) (listed (header_at sizes end.state line).list p) (nobody_listed (header_at sizes end.state line).list) (nat_lt (links_among (end.state.share home).headers) sizes.links) l
           where
             unlinked : (a b c d : Bool) → a ≡ false → ((a && not b && not c) && not d) ≡ false
             unlinked a b c d e = grind arith
         go true e true l =
             let same : v ≡ line = grind (arith, nat_tests) in
-            nobody (is_linked charge) (listed (header_at sizes end.state line).list p) (nobody_listed (header_at sizes end.state line).list) (nat_lt (held_links (end.state.share home)) sizes.links) (subst (λ g. nobody_listed (header_at sizes end.state g).list ≡ true) same over)
+            nobody (is_linked charge) (listed (header_at sizes end.state line).list p) (nobody_listed (header_at sizes end.state line).list) (nat_lt (links_among (end.state.share home).headers) sizes.links) (subst (λ g. nobody_listed (header_at sizes end.state g).list ≡ true) same over)
           where
             nobody : (a b c d : Bool) → c ≡ true → ((a && not b && not c) && not d) ≡ false
             nobody a b c d e = grind arith
         go false e true l =
             let a = recalled.links in
             let b = none-links in
-            let c : held_links (first.state.share (home_of sizes v)) ≤ sizes.links = known.bounded.links l (home_of sizes v) in
+            let c : links_among (first.state.share (home_of sizes v)).headers ≤ sizes.links = known.bounded.links l (home_of sizes v) in
             let d : 0 < links_in (header_at sizes first.state v) = some-links (is_linked charge) (count (header_at sizes first.state v).list) some in
-            let f : held_links (end.state.share (home_of sizes v)) ≡ held_links (end.state.share home) = ap (λ n. held_links (end.state.share n)) of_home in
-            free-link (is_linked charge) (listed (header_at sizes end.state line).list p) (nobody_listed (header_at sizes end.state line).list) (held_links (end.state.share home)) sizes.links (omega arith)
+            let f : links_among (end.state.share (home_of sizes v)).headers ≡ links_among (end.state.share home).headers = ap (λ n. links_among (end.state.share n).headers) of_home in
+            free-link (is_linked charge) (listed (header_at sizes end.state line).list p) (nobody_listed (header_at sizes end.state line).list) (links_among (end.state.share home).headers) sizes.links (omega arith)
           where
             free-link : (a b c : Bool) (held links : ℕ) → held < links → ((a && not b && not c) && not (nat_lt held links)) ≡ false
             free-link a b c held links less = grind (arith, nat_tests)

@@ -7,7 +7,7 @@ use Rattle.op_model.specs.declared.messages.NakCause.TheVariants.{NoLink}
 use Rattle.op_model.specs.Lines.{Absent, Header, Outcome, to_each}
 use Rattle.op_model.specs.Messages.{Content, Nak}
 use Rattle.op_model.specs.Nodes.{Nodes, count, in_order, listed}
-use Rattle.op_model.specs.Shares.{Charge, Lanes, Share, State, Trace, copy_of, header_of, held_links, is_linked, links_in, put_share, room_of, share_at, want_after, want_on}
+use Rattle.op_model.specs.Shares.{Charge, Lanes, Share, State, Trace, copy_of, header_of, links_among, is_linked, links_in, put_share, room_of, share_at, want_after, want_on}
 use Rattle.op_model.specs.Tables.Processor.{call_in}
 use Rattle.lane_bounds.proofs.Acts.{after_row_of, row-kept}
 use Rattle.lane_bounds.proofs.Homes.{links-after}
@@ -109,16 +109,16 @@ module _ (sizes : Sizes) (first state : State) (lane : Lanes) (empty : AreEmpty 
           (ap (λ s. s.want) is ∙ free n, ap (λ s. s.place) is)
 
   -- the home's lists hold as many links as before
-  held-same : held_links (last.share home) ≡ held_links (first.share home)
+  held-same : links_among (last.share home).headers ≡ links_among (first.share home).headers
   held-same =
       let a = links-after Rattle.op_model.specs.Shares.Linked sizes (state.share home) (home == home_of sizes line) line refused.done refused.share there in
       let b = links-after Rattle.op_model.specs.Shares.Linked sizes (mid.share home) (home == home_of sizes v) v called.done called.share there_v in
-      let c : held_links (mid.share home) ≡ held_links mid_home = ap held_links mid-there in
+      let c : links_among (mid.share home).headers ≡ links_among mid_home.headers = ap (λ s. links_among s.headers) mid-there in
       let d : links_in refused.share.header ≡ links_in (header_of sizes (state.share home) line) = ap (λ s. links_in s.header) same ∙ ap (λ n. links_in (header_of sizes (state.share n) line)) at in
       let e : links_in called.share.header ≡ links_in (header_of sizes (mid.share home) v) = ap (λ n. links_in (header_of sizes (mid.share n) v)) of_home in
-      let f : held_links (last.share home) ≡ held_links (put_share sizes (home == home_of sizes v) v called.done called.share (mid.share home)) =
-      at-share sizes mid mid.lane home v called (λ s. held_links s ≡ held_links (put_share sizes (home == home_of sizes v) v called.done called.share (mid.share home))) home (λ far. absurd (far refl)) (λ _. refl) in
-      let g : held_links (state.share home) ≡ held_links (first.share home) = ap held_links (shares home home-apart) in
+      let f : links_among (last.share home).headers ≡ links_among (put_share sizes (home == home_of sizes v) v called.done called.share (mid.share home)).headers =
+      at-share sizes mid mid.lane home v called (λ s. links_among s.headers ≡ links_among (put_share sizes (home == home_of sizes v) v called.done called.share (mid.share home)).headers) home (λ far. absurd (far refl)) (λ _. refl) in
+      let g : links_among (state.share home).headers ≡ links_among (first.share home).headers = ap (λ s. links_among s.headers) (shares home home-apart) in
       omega arith
 
   abbrev nak_sent : List (ℕ × Content)
@@ -136,10 +136,10 @@ module _ (sizes : Sizes) (first state : State) (lane : Lanes) (empty : AreEmpty 
         links = held;
       }
     where
-      held : held_links (last.share (home_of sizes v)) + links_in (header_at sizes first v) ≡ held_links (first.share (home_of sizes v)) + links_in (header_at sizes last v)
+      held : links_among (last.share (home_of sizes v)).headers + links_in (header_at sizes first v) ≡ links_among (first.share (home_of sizes v)).headers + links_in (header_at sizes last v)
       held =
-          let a : held_links (last.share (home_of sizes v)) ≡ held_links (last.share home) = ap (λ n. held_links (last.share n)) of_home in
-          let b : held_links (first.share (home_of sizes v)) ≡ held_links (first.share home) = ap (λ n. held_links (first.share n)) of_home in
+          let a : links_among (last.share (home_of sizes v)).headers ≡ links_among (last.share home).headers = ap (λ n. links_among (last.share n).headers) of_home in
+          let b : links_among (first.share (home_of sizes v)).headers ≡ links_among (first.share home).headers = ap (λ n. links_among (first.share n).headers) of_home in
           let c : links_in (header_at sizes last v) ≡ links_in (header_at sizes first v) = ap links_in called-header ∙ ap (λ (h : Header). links_in h) v-share in
           let d = held-same in
           omega arith

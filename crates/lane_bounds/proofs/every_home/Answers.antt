@@ -5,4 +5,4 @@ pub returns-clause-pending : goal.returns-clause-pending
 returns-clause-pending c = λ charge trace events past n positive runs. bounded_pending trace events past n positive charge runs
 
 pub returns-clause-links : goal.returns-clause-links
-returns-clause-links c = λ trace events past n positive runs. bounded_links trace events past n positive runs
+returns-clause-links c = λ charge trace events past n positive runs. bounded_links trace events past n positive charge runs
