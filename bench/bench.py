@@ -3,7 +3,7 @@
 
 usage: bench.py [RUNS]      (3 if none is given)
 
-The time holds the start of the program, reading and printing. The events are those that the report, or the summary, counts.
+The time holds the start of the program, reading and printing. The events are those that the report, or the summary, counts; of `check` the entries are counted, and of `story` the steps.
 """
 import os
 import re
@@ -41,12 +41,18 @@ def peak_of(words, text):
     return int(done.stderr.split()[-1]) / 1024
 
 
-def show(name, words, text, runs):
+def show(name, words, text, runs, counted="events"):
+    """Prints a line. The output says in a line of its own how many there were of what is counted."""
     data = text.encode()
     best, output = min((run(words, data) for _ in range(runs)), key=lambda pair: pair[0])
-    events = int(re.search(rb"\nevents (\d+)\n", output).group(1))
-    each = f"{best / events * 1e9:8.0f} ns an event" if events else " " * 20
-    print(f"{name:44} {best * 1000:9.1f} ms {events:9} events {each} {peak_of(words, data):7.1f} MiB", flush=True)
+    count = int(re.search(rb"\n%s (\d+)\n" % counted.encode(), output).group(1))
+    each = f"{best / count * 1e9:8.0f} ns each" if count else " " * 16
+    print(f"{name:44} {best * 1000:9.1f} ms {count:9} {counted:8} {each} {peak_of(words, data):7.1f} MiB", flush=True)
+
+
+def reported(text):
+    """A trace with the report of its serial run behind it."""
+    return text + run("serial", text.encode())[1].decode()
 
 
 def main():
@@ -65,6 +71,12 @@ def main():
         show(f"replay, {count} steps", "replay", traces.steps(count), runs)
     for count in (5000, 10000, 20000):
         show(f"seeded 1, 16 nodes, {count} operations", "seeded 1", traces.shared(16, count, 2048), runs)
+    for count in (25000, 50000, 100000):
+        show(f"bits serial, 16 nodes, {count} operations", "bits serial", traces.shared(16, count, 2048), runs)
+    for count in (25000, 50000, 100000):
+        show(f"check, {count} entries", "check", reported(traces.shared(16, count, 2048)), runs, "entries")
+    for count in (250000, 500000, 1000000):
+        show(f"story 0, {count} steps", "story 0", traces.steps(count), runs, "steps")
     for size in (4 << 20, 16 << 20):
         show(f"serial, {size >> 20} MiB of comments", "serial", traces.comments(size), runs)
 
