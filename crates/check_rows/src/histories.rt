@@ -1,6 +1,7 @@
 //! Histories that are good, and the first bad entry of others.
 
-use crate::calls::{MIXED, PLAIN, ends, joined};
+use crate::traces::{MIXED, PLAIN};
+use row_calls::{ends, joined};
 use std::test::Fail;
 
 /// A trace and what is printed behind it, and how many entries and missing operations are told.

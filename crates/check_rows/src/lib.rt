@@ -2,8 +2,8 @@
 #![tactic(auto)]
 
 #[cfg(test)]
-mod calls;
-#[cfg(test)]
 mod histories;
 #[cfg(test)]
 mod lines;
+#[cfg(test)]
+mod traces;

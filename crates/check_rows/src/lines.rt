@@ -1,6 +1,7 @@
 //! Inputs that are refused at a line.
 
-use crate::calls::{MIXED, PLAIN, ends, joined};
+use crate::traces::{MIXED, PLAIN};
+use row_calls::{ends, joined};
 use std::test::Fail;
 
 /// A trace, what stands behind it, and what is told.

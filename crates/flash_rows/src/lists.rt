@@ -1,6 +1,6 @@
 //! Lanes as plain lists give the same bytes as rings of words.
 
-use crate::calls::{ends, trace};
+use row_calls::{ends, trace};
 use command_words::Play;
 use commands::command_text_over;
 use lane_queues::ListLanes;

@@ -1,6 +1,6 @@
 //! Traces and their reports.
 
-use crate::calls::{ends, push_lines, trace};
+use row_calls::{ends, push_lines, trace};
 use std::alloc::Global;
 use std::test::Fail;
 

@@ -1,6 +1,6 @@
 //! Inputs that are refused, and words that are no command.
 
-use crate::calls::{ends, ends_within, push_lines, trace};
+use row_calls::{ends, ends_within, push_lines, trace};
 use std::alloc::Global;
 use std::test::Fail;
 

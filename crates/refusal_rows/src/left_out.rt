@@ -1,6 +1,6 @@
 //! The steps of a run that wants for a link, with each of them left out in turn.
 
-use crate::calls::{ends, trace};
+use row_calls::{ends, trace};
 use std::test::Fail;
 
 /// Two nodes load two lines that share one link: the last Get calls the other line in.

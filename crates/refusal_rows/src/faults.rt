@@ -1,6 +1,6 @@
 //! Inputs that are cut short, and devices that fail.
 
-use crate::calls::{Ended, call, ends};
+use row_calls::{Ended, call, ends};
 use flash_top::{MemSink, MemSource};
 use std::alloc::Global;
 use std::test::Fail;

@@ -1,0 +1,8 @@
+//! How tests of rows call the program, and the texts that they call it with.
+#![tactic(auto)]
+
+mod calls;
+mod texts;
+
+pub use calls::{Ended, call, ends, ends_within};
+pub use texts::{joined, push_lines, trace};
