@@ -11,6 +11,3 @@ mod start;
 pub use ending::Ran;
 pub use gate::{Gate, Role};
 pub use run::run_threads;
-
-#[cfg(test)]
-mod tests;

@@ -3,7 +3,6 @@
 ghost use Rattle.std.specs.Prelude.{IfOk};
 ghost use Rattle.op_model.specs.Programs.{ArePrograms};
 
-use crate::{Gate, Ran, Role, run_threads};
 use line_map::Machine;
 use machine_rows::{first_programs, put_op};
 use op_model::{Event, Kind, NoMemory, Program};
@@ -12,6 +11,7 @@ use std::process::Abort;
 use std::sync::{Mutex, Wait};
 use std::test::Fail;
 use std::thread;
+use thread_run::{Gate, Ran, Role, run_threads};
 
 // A node, what it does, the word, and the operand.
 type Access = (u32, Kind, u32, u64);
