@@ -3,8 +3,6 @@
 
 mod bits;
 mod laws;
-#[cfg(test)]
-mod tests;
 
 pub use bits::BitDir;
 pub use dir_header::{NoRoom, Sharers};

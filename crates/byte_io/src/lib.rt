@@ -4,8 +4,6 @@
 mod adapters;
 mod memory;
 mod moves;
-#[cfg(test)]
-mod tests;
 mod traits;
 
 pub use adapters::{StdSink, StdSource};

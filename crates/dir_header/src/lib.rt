@@ -9,8 +9,6 @@ mod line_set;
 mod listed;
 mod plain;
 mod sharers;
-#[cfg(test)]
-mod tests;
 mod victim_list;
 mod words;
 

@@ -13,6 +13,3 @@ pub use fault::{CheckError, EntriesError, EntryCause};
 pub use history::every_history;
 pub use judging::check_history;
 pub use reading::read_entries;
-
-#[cfg(test)]
-mod tests;

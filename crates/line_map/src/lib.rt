@@ -5,8 +5,6 @@ mod address;
 mod body;
 mod divisor;
 mod machine;
-#[cfg(test)]
-mod tests;
 
 pub use address::{Addr, BadAddr};
 pub use body::Body;

@@ -180,6 +180,3 @@ impl Links {
         link_at(&self.entries, self.free, i)
     }
 }
-
-#[cfg(test)]
-mod tests;

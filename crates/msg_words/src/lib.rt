@@ -3,8 +3,6 @@
 
 mod queue;
 mod sends;
-#[cfg(test)]
-mod tests;
 mod words;
 
 pub use op_model::{Class, Msg, NakCause, NoMemory};

@@ -11,8 +11,6 @@ mod open_box;
 mod outgoing;
 mod processor;
 mod search;
-#[cfg(test)]
-mod tests;
 mod turns;
 mod victims;
 

@@ -3,8 +3,6 @@
 
 mod bounds;
 mod outbox;
-#[cfg(test)]
-mod tests;
 
 pub use bounds::{reply_bound, request_bound};
 pub use outbox::Outbox;

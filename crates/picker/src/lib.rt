@@ -1,9 +1,6 @@
 //! A choice among things, made by a closure that is kept beside the fact that its answer is always one of them.
 #![tactic(auto)]
 
-#[cfg(test)]
-mod tests;
-
 ghost use Rattle.std.specs.Prelude.{◌≡◌, ◌<◌, ℕ};
 ghost use Rattle.picker.specs.Choices.{IsChoice};
 

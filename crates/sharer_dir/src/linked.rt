@@ -188,6 +188,3 @@ impl Sharers for LinkedDir {
         self.links.home_line(link)
     }
 }
-
-#[cfg(test)]
-mod tests;

@@ -13,6 +13,3 @@ pub use log::Log;
 pub use merging::{every_journal, merge};
 pub use printing::{print_steps, put_journal, put_steps};
 pub use reading::{MOST_STEPS, Stop, read_section, read_steps};
-
-#[cfg(test)]
-mod tests;

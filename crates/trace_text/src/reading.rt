@@ -189,6 +189,3 @@ pub fn read_trace(alloc: Global, bytes: &[u8]) -> Result<Trace, TraceError>
 {
     read_all(alloc, &mut Lines::of(bytes, 1))
 }
-
-#[cfg(test)]
-mod tests;

@@ -1,4 +1,0 @@
-use Rattle.node_box.proofs.tests.plays.Given as goal
-
-abbrev pub ghosts-played : goal.ghosts-played
-ghosts-played g a = record { table = a.t.now }

@@ -1,0 +1,152 @@
+//! Header words worked by hand from their layout: kind, argument times 16, line times 4096.
+
+ghost use Rattle.std.specs.Prelude.{◌≡◌};
+
+use msg_words::{BadWord, Class, Msg, NakCause, Sends, from_words};
+use line_map::{Body, Machine};
+use std::process::Abort;
+use std::test::Fail;
+
+// A machine with lines of one word.
+fn machine_of(rt: &impl Abort, nodes: u64, lines: u64) -> Machine
+    ensures { result.words ≡ 1 }
+{
+    let cfg = Machine::new(nodes, lines, 1, 1, 1, 1, 1).expect(
+        rt,
+        "the sizes are within their limits",
+    );
+    assert_eq!(rt; cfg.words(), 1);
+    cfg
+}
+
+// One message of each kind, for 8 lines and 4 nodes, with its header word and its class.
+fn samples(body: Body) -> [(Msg, u64, Class); 14] {
+    [
+        (Msg::Get { line: 0 }, 0x0001, Class::Request),
+        (Msg::GetX { line: 1 }, 0x1002, Class::Request),
+        (Msg::FwdGet { line: 5, req: 3 }, 20531, Class::Request),
+        (Msg::FwdGetX { line: 7, req: 2 }, 0x7024, Class::Request),
+        (Msg::Inv { line: 2 }, 0x2005, Class::Request),
+        (Msg::Wb { line: 3, body }, 0x3006, Class::Request),
+        (Msg::Rpl { line: 4 }, 0x4007, Class::Request),
+        (Msg::Put { line: 6, body }, 0x6008, Class::Reply),
+        (Msg::PutX { line: 5, body }, 0x5009, Class::Reply),
+        (
+            Msg::Nak {
+                line: 1,
+                cause: NakCause::Gone,
+            },
+            0x103a,
+            Class::Reply,
+        ),
+        (Msg::InvAck { line: 7 }, 0x700b, Class::Reply),
+        (Msg::ShWb { line: 0, body }, 0x000c, Class::Reply),
+        (Msg::FAck { line: 2 }, 0x200d, Class::Reply),
+        (Msg::Nakc { line: 3 }, 0x300e, Class::Reply),
+    ]
+}
+
+#[test]
+fn words_of_each_kind(rt: HostRuntime) -> Result<(), Fail> {
+    let cfg = machine_of(&rt, 4, 2);
+    let mut body = Body::zeros(1);
+    body.put(0, 77);
+    for (m, word, class) in samples(body).iter() {
+        assert_eq!(rt; m.header_word(), *word);
+        assert_eq!(rt; m.class(), *class);
+        let Ok(named) = from_words(&cfg, *word, &body) else {
+            return Err(Fail::new("no message"));
+        };
+        assert_eq!(rt; named.header_word(), *word);
+        assert_eq!(rt; named.line(), m.line());
+        assert_eq!(rt; named.body_words().is_some(), m.body_words().is_some());
+    }
+    Ok(())
+}
+
+#[test]
+fn arguments(rt: HostRuntime) {
+    let cfg = machine_of(&rt, 4, 2);
+    let body = Body::zeros(1);
+    assert!(rt;
+        matches!(
+            from_words(&cfg, 0x5033, &body),
+            Ok(Msg::FwdGet { line: 5, req: 3 })
+        )
+    );
+    for (word, cause) in CAUSES.iter() {
+        match from_words(&cfg, *word, &body) {
+            Ok(Msg::Nak { cause: told, .. }) => assert_eq!(rt; told, *cause),
+            _ => assert!(rt; false, "no Nak"),
+        }
+    }
+}
+
+/// Naks of line 0.
+const CAUSES: [(u64, NakCause); 4] = [
+    (0x000a, NakCause::Pending),
+    (0x001a, NakCause::NoLink),
+    (0x002a, NakCause::Budget),
+    (0x003a, NakCause::Gone),
+];
+
+#[test]
+fn brings_its_words(rt: HostRuntime) -> Result<(), Fail> {
+    let cfg = machine_of(&rt, 4, 2);
+    let mut body = Body::zeros(1);
+    body.put(0, 77);
+    let Ok(m) = from_words(&cfg, 0x5009, &body) else {
+        return Err(Fail::new("no message"));
+    };
+    let Some(words) = m.body_words() else {
+        return Err(Fail::new("no words"));
+    };
+    assert_eq!(rt; m.line(), 5);
+    assert_eq!(rt; words.get(0), 77);
+    Ok(())
+}
+
+/// Words that name no message of two nodes with one line each: no kind, an argument where none may stand, a cause above 3, a requester that isn't a node, lines that aren't there, bit 32.
+const REFUSED: [u64; 11] = [
+    0,
+    15,
+    0x1010,
+    0x0011,
+    0x0016,
+    0x004a,
+    0x0023,
+    0x2001,
+    20531,
+    0x1_0000_0001,
+    0x8000_0000_0000_0001,
+];
+
+#[test]
+fn refused_words(rt: HostRuntime) {
+    let cfg = machine_of(&rt, 2, 1);
+    let body = Body::zeros(1);
+    for word in REFUSED.iter() {
+        assert!(rt; matches!(from_words(&cfg, *word, &body), Err(BadWord)));
+    }
+    assert!(rt;
+        matches!(
+            from_words(&cfg, 0x1013, &body),
+            Ok(Msg::FwdGet { line: 1, req: 1 })
+        )
+    );
+}
+
+#[test]
+fn sends_in_order(rt: HostRuntime) -> Result<(), Fail> {
+    let mut sends = Sends::new(rt.alloc(), 2)?;
+    assert!(rt; sends.is_empty());
+    sends.push(1, Msg::Inv { line: 0 });
+    sends.push(0, Msg::FAck { line: 1 });
+    sends.push(1, Msg::Get { line: 1 });
+    assert_eq!(rt; sends.len(), 3);
+    let (dst, m) = sends.at(1);
+    assert_eq!(rt; (dst, m.header_word()), (0, 0x100d));
+    sends.clear();
+    assert_eq!(rt; sends.len(), 0);
+    Ok(())
+}
