@@ -3,7 +3,9 @@
 ghost use Rattle.std.specs.Prelude.{◌≡◌, length};
 ghost use Rattle.line_map.specs.Sizes.{home_of};
 
-use sharer_dir::{LinkedDir, Sharers};
+use op_model::NoMemory;
+use sharer_dir::{LinkedDir, NoRoom, Sharers};
+use std::alloc::Global;
 use dir_header::{Grantee, HomeSide, Wait};
 use line_map::Machine;
 use std::process::Abort;
