@@ -1,7 +1,11 @@
-//! Rows worked by hand, through the top call: a trace in and a report out.
+//! What the rows of the book don't have: inputs that are large or cut short, devices that fail, and texts that are compared with one another.
 #![tactic(auto)]
 
 #[cfg(test)]
+mod faults;
+#[cfg(test)]
+mod inputs;
+#[cfg(test)]
 mod lists;
 #[cfg(test)]
-mod reports;
+mod schedules;
