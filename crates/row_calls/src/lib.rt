@@ -5,4 +5,4 @@ mod calls;
 mod texts;
 
 pub use calls::{Ended, call, ends, ends_within};
-pub use texts::{joined, push_lines, trace};
+pub use texts::{joined, trace};

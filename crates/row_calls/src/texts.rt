@@ -4,7 +4,7 @@ use std::alloc::{AllocError, Global};
 use std::test::Fail;
 
 /// Appends each piece of a text as a line of its own, and answers how many there are. Pieces are parted by a semicolon and a space.
-pub fn push_lines(out: &mut String, text: &str) -> Result<usize, Fail> {
+fn push_lines(out: &mut String, text: &str) -> Result<usize, Fail> {
     if text.is_empty() {
         return Ok(0);
     }
