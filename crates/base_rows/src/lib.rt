@@ -1,4 +1,4 @@
-//! What texts, streams, sizes and histories give, with ample memory.
+//! What sizes, histories, choices, streams and traces give, with ample memory.
 #![tactic(auto)]
 
 #[cfg(test)]
@@ -6,15 +6,7 @@ mod choices;
 #[cfg(test)]
 mod flat;
 #[cfg(test)]
-mod histories;
-#[cfg(test)]
-mod numbers;
-#[cfg(test)]
-mod program;
-#[cfg(test)]
 mod sizes;
-#[cfg(test)]
-mod steps;
 #[cfg(test)]
 mod streams;
 #[cfg(test)]

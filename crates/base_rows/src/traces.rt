@@ -1,9 +1,9 @@
-//! Traces that are read, refused, printed and generated.
+//! A trace that is read, too many steps, and traces that are generated.
 
-use trace_text::{TraceCause, TraceError, generate, print_trace, programs, read_trace};
 use op_model::Kind;
 use std::alloc::{AllocError, Global};
 use std::test::Fail;
+use trace_text::{TraceError, generate, programs, read_trace};
 
 /// The header of version 1 of two nodes, one line each and one word a line.
 const HEADER: &str = "flash 1\nnodes 2\nlines 1\nwords 1\nlinks 1\nsets 1\npending 1\nevicts 1\n";
@@ -13,62 +13,6 @@ fn behind_header(alloc: Global, rest: &str) -> Result<Vec<u8>, AllocError> {
     text.extend_from_slice(HEADER.as_bytes())?;
     text.extend_from_slice(rest.as_bytes())?;
     Ok(text)
-}
-
-#[test]
-fn refuses_a_bad_line(rt: HostRuntime) -> Result<(), Fail> {
-    for (rest, line, cause) in [
-        ("0 L 0x10\nend\n", 9, TraceCause::PastEnd),
-        ("0 L 0x4\nend\n", 9, TraceCause::Unaligned),
-        ("0 L 0x14\nend\n", 9, TraceCause::Unaligned),
-        ("2 L 0x14\nend\n", 9, TraceCause::Node),
-        ("0 S 0x0 18446744073709551616\nend\n", 9, TraceCause::Number),
-        ("0 A 0x0 5\nend\n", 9, TraceCause::Shape),
-        ("0 X 0x0 5\nend\n", 9, TraceCause::Shape),
-        ("0 S 0x0\nend\n", 9, TraceCause::Shape),
-        ("0 L 0x0 5\nend\n", 9, TraceCause::Shape),
-        ("0 S 0x", 9, TraceCause::Shape),
-        ("steps\nh 2\nend\n", 10, TraceCause::Node),
-        ("steps\nr 2\nend\n", 10, TraceCause::Line),
-        ("steps\nt 0 1 q 2\nend\n", 10, TraceCause::Line),
-        (
-            "steps\n\ni 18446744073709551616\nend\n",
-            11,
-            TraceCause::Number,
-        ),
-        ("steps\nt 0 1 x -\nend\n", 10, TraceCause::Shape),
-        ("steps\n0 L 0x0\nend\n", 10, TraceCause::Shape),
-        ("steps\nsteps\nend\n", 10, TraceCause::Shape),
-        ("steps\nh 0\n# end\n", 12, TraceCause::NoEnd),
-        ("steps\nh 0\nend\nh 0\n", 12, TraceCause::After),
-        ("0 S 0x0 7\n1 L 0x8\n", 11, TraceCause::NoEnd),
-        ("0 S 0x0 7\n1 L 0x8\nend\n0 L 0x0\n", 12, TraceCause::After),
-    ] {
-        let text = behind_header(rt.alloc(), rest)?;
-        match read_trace(rt.alloc(), &text) {
-            Ok(_) => panic!(rt; "accepted: {rest}"),
-            Err(error) => assert_eq!(rt; error, TraceError::Bad { line, cause }, "at {rest}"),
-        }
-    }
-    Ok(())
-}
-
-#[test]
-fn refuses_a_bad_header(rt: HostRuntime) -> Result<(), Fail> {
-    for (text, want) in [
-        ("", "line 1: NoEnd"),
-        ("flash 3\n", "line 1: Version"),
-        ("flash 1\nnodes 65\n", "line 2: Range"),
-        ("flash 1\nnodes 2\nlines 1\nwords 3\n", "line 4: Range"),
-        ("flash 1\n\nnode 2\n", "line 3: Shape"),
-        ("flash 18446744073709551616\n", "line 1: Number"),
-    ] {
-        match read_trace(rt.alloc(), text.as_bytes()) {
-            Ok(_) => panic!(rt; "accepted: {text}"),
-            Err(error) => assert_eq!(rt; format!(in rt.alloc(); "{error}")?.as_str(), want),
-        }
-    }
-    Ok(())
 }
 
 #[test]
@@ -108,22 +52,6 @@ fn reads_a_trace(rt: HostRuntime) -> Result<(), Fail> {
 }
 
 #[test]
-fn counts_operations(rt: HostRuntime) -> Result<(), Fail> {
-    for (count, many) in [(100_000, false), (100_001, true)] {
-        let mut text = behind_header(rt.alloc(), "")?;
-        for _ in 0..count {
-            text.extend_from_slice(b"0 L 0x8\n")?;
-        }
-        text.extend_from_slice(b"end\n")?;
-        match read_trace(rt.alloc(), &text) {
-            Ok(trace) => assert_eq!(rt; (trace.ops().len(), many), (100_000, false)),
-            Err(error) => assert_eq!(rt; (error, many), (TraceError::TooManyOps, true)),
-        }
-    }
-    Ok(())
-}
-
-#[test]
 fn counts_steps(rt: HostRuntime) -> Result<(), Fail> {
     for (count, many) in [(1_000_000, false), (1_000_001, true)] {
         let mut text = behind_header(rt.alloc(), "steps\n")?;
@@ -140,33 +68,6 @@ fn counts_steps(rt: HostRuntime) -> Result<(), Fail> {
 }
 
 /// A trace is printed as it was written, without skipped lines.
-#[test]
-fn prints_again(rt: HostRuntime) -> Result<(), Fail> {
-    for (rest, printed) in [
-        ("end", "end\n"),
-        ("steps\r\n# none\nend\n", "end\n"),
-        (
-            "01 L 0x000008\n0 S 0x0 00\nend\n",
-            "1 L 0x8\n0 S 0x0 0\nend\n",
-        ),
-        (
-            "1 L 0x0\nsteps\ni 1\nt 1 0 q -\nt 0 1 r 1\ne 1 0 wb\ne 1 0 hint\ne 0 1 silent\nr 1\nh 01\nend\n",
-            "1 L 0x0\nsteps\ni 1\nt 1 0 q -\nt 0 1 r 1\ne 1 0 wb\ne 1 0 hint\ne 0 1 silent\nr 1\nh 1\nend\n",
-        ),
-    ] {
-        let text = behind_header(rt.alloc(), rest)?;
-        let want = behind_header(rt.alloc(), printed)?;
-        let trace = read_trace(rt.alloc(), &text)?;
-        let again = print_trace(rt.alloc(), &trace)?;
-        assert_eq!(rt; again.as_slice(), want.as_slice(), "{rest}");
-        let trace = read_trace(rt.alloc(), &again)?;
-        let again = print_trace(rt.alloc(), &trace)?;
-        assert_eq!(rt; again.as_slice(), want.as_slice(), "{rest}");
-    }
-    Ok(())
-}
-
-/// The first operations of number 1, as an independent program draws them, and the same ones when they are drawn again.
 #[test]
 fn generates(rt: HostRuntime) -> Result<(), Fail> {
     let want =

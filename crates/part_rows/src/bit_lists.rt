@@ -1,11 +1,8 @@
-//! The list of one line after the calls of the worked row on the pool of links, and a home whose lists are words, where no link is wanted.
+//! The list of one line after the calls of the worked row on the pool of links.
 
 ghost use Rattle.std.specs.Prelude.{◌≡◌, length};
-ghost use Rattle.line_map.specs.Sizes.{home_of};
 
 use bitvec_dir::{BitDir, Sharers};
-use dir_header::{HomeSide, Wait};
-use line_map::Machine;
 use std::process::Abort;
 use std::test::Fail;
 
@@ -149,32 +146,5 @@ fn lists_are_bits(rt: HostRuntime) -> Result<(), Fail> {
         make(&rt, &mut dir, row.call);
         shows(&rt, &dir, row.listed);
     }
-    Ok(())
-}
-
-// Two nodes are listed for a line that is idle.
-fn share(rt: &impl Abort, home: &mut HomeSide<BitDir>, g: u32)
-    requires own { home_of home.old.sizes g ≡ home.old.node }
-    requires nodes { home.old.sizes.nodes ≡ 3 }
-    ensures sizes { home.new.sizes ≡ home.old.sizes }
-    ensures node { home.new.node ≡ home.old.node }
-{
-    assert_eq!(rt; home.header(g).wait, Wait::Idle);
-    assert_eq!(rt; home.list(g, 1), Ok(()));
-    assert_eq!(rt; home.header(g).wait, Wait::Idle);
-    assert_eq!(rt; home.list(g, 2), Ok(()));
-}
-
-#[test]
-fn no_link_is_held(rt: HostRuntime) -> Result<(), Fail> {
-    let cfg = Machine::new(3, 2, 1, 1, 1, 1, 1).expect(&rt, "the sizes are within their limits");
-    assert_eq!(rt; (cfg.nodes(), cfg.lines(), cfg.links()), (3, 2, 1));
-    let dir = BitDir::new(rt.alloc(), cfg.lines(), cfg.nodes(), cfg.links())?;
-    let mut home = HomeSide::new(rt.alloc(), cfg, 0, dir)?;
-    share(&rt, &mut home, 0);
-    share(&rt, &mut home, 1);
-    assert!(rt; !home.pending_holds());
-    assert_eq!(rt; home.least_victim(), None);
-    assert_eq!(rt; (home.dir().free(), home.dir().holds(1)), (1, 0));
     Ok(())
 }

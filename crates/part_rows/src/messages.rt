@@ -2,7 +2,7 @@
 
 ghost use Rattle.std.specs.Prelude.{◌≡◌};
 
-use msg_words::{BadWord, Class, Msg, NakCause, Sends, from_words};
+use msg_words::{BadWord, Class, Msg, NakCause, from_words};
 use line_map::{Body, Machine};
 use std::process::Abort;
 use std::test::Fail;
@@ -64,48 +64,6 @@ fn words_of_each_kind(rt: HostRuntime) -> Result<(), Fail> {
     Ok(())
 }
 
-#[test]
-fn arguments(rt: HostRuntime) {
-    let cfg = machine_of(&rt, 4, 2);
-    let body = Body::zeros(1);
-    assert!(rt;
-        matches!(
-            from_words(&cfg, 0x5033, &body),
-            Ok(Msg::FwdGet { line: 5, req: 3 })
-        )
-    );
-    for (word, cause) in CAUSES.iter() {
-        match from_words(&cfg, *word, &body) {
-            Ok(Msg::Nak { cause: told, .. }) => assert_eq!(rt; told, *cause),
-            _ => assert!(rt; false, "no Nak"),
-        }
-    }
-}
-
-/// Naks of line 0.
-const CAUSES: [(u64, NakCause); 4] = [
-    (0x000a, NakCause::Pending),
-    (0x001a, NakCause::NoLink),
-    (0x002a, NakCause::Budget),
-    (0x003a, NakCause::Gone),
-];
-
-#[test]
-fn brings_its_words(rt: HostRuntime) -> Result<(), Fail> {
-    let cfg = machine_of(&rt, 4, 2);
-    let mut body = Body::zeros(1);
-    body.put(0, 77);
-    let Ok(m) = from_words(&cfg, 0x5009, &body) else {
-        return Err(Fail::new("no message"));
-    };
-    let Some(words) = m.body_words() else {
-        return Err(Fail::new("no words"));
-    };
-    assert_eq!(rt; m.line(), 5);
-    assert_eq!(rt; words.get(0), 77);
-    Ok(())
-}
-
 /// Words that name no message of two nodes with one line each: no kind, an argument where none may stand, a cause above 3, a requester that isn't a node, lines that aren't there, bit 32.
 const REFUSED: [u64; 11] = [
     0,
@@ -134,19 +92,4 @@ fn refused_words(rt: HostRuntime) {
             Ok(Msg::FwdGet { line: 1, req: 1 })
         )
     );
-}
-
-#[test]
-fn sends_in_order(rt: HostRuntime) -> Result<(), Fail> {
-    let mut sends = Sends::new(rt.alloc(), 2)?;
-    assert!(rt; sends.is_empty());
-    sends.push(1, Msg::Inv { line: 0 });
-    sends.push(0, Msg::FAck { line: 1 });
-    sends.push(1, Msg::Get { line: 1 });
-    assert_eq!(rt; sends.len(), 3);
-    let (dst, m) = sends.at(1);
-    assert_eq!(rt; (dst, m.header_word()), (0, 0x100d));
-    sends.clear();
-    assert_eq!(rt; sends.len(), 0);
-    Ok(())
 }
