@@ -3,7 +3,7 @@
 use op_model::Kind;
 use std::alloc::{AllocError, Global};
 use std::test::Fail;
-use trace_text::{TraceError, generate, programs, read_trace};
+use trace_text::{TraceError, generate, print_trace, programs, read_trace};
 
 /// The header of version 1 of two nodes, one line each and one word a line.
 const HEADER: &str = "flash 1\nnodes 2\nlines 1\nwords 1\nlinks 1\nsets 1\npending 1\nevicts 1\n";

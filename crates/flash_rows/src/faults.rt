@@ -1,7 +1,7 @@
 //! Inputs that are cut short, and devices that fail.
 
-use row_calls::{Ended, call, ends};
 use flash_top::{MemSink, MemSource};
+use row_calls::{Ended, call, ends};
 use std::alloc::Global;
 use std::test::Fail;
 

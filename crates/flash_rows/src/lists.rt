@@ -1,10 +1,10 @@
 //! Lanes as plain lists give the same bytes as rings of words.
 
-use row_calls::{ends, trace};
 use command_words::Play;
 use commands::command_text_over;
 use lane_queues::ListLanes;
 use out_space::{reply_bound, request_bound};
+use row_calls::{ends, trace};
 use std::alloc::Global;
 use std::test::Fail;
 use trace_text::read_trace;

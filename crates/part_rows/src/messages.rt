@@ -2,8 +2,8 @@
 
 ghost use Rattle.std.specs.Prelude.{◌≡◌};
 
-use msg_words::{BadWord, Class, Msg, NakCause, from_words};
 use line_map::{Body, Machine};
+use msg_words::{BadWord, Class, Msg, NakCause, from_words};
 use std::process::Abort;
 use std::test::Fail;
 

@@ -5,8 +5,8 @@
 
 mod row;
 
-use flash_top::{StdSink, StdSource};
 use byte_io::{read_all, write_all};
+use flash_top::{StdSink, StdSource};
 use row::{Row, outcome};
 use std::alloc::Global;
 use std::process::ExitCode;
@@ -22,7 +22,11 @@ fn tell(alloc: Global, text: &str, out: &mut Vec<u8>) -> Result<(), Fail> {
     };
     let ended = outcome(alloc, &row)?;
     let is_so = ended.as_slice() == row.wanted.as_bytes();
-    out.extend_from_slice(if is_so { b"ok: ".as_slice() } else { b"not so: ".as_slice() })?;
+    out.extend_from_slice(if is_so {
+        b"ok: ".as_slice()
+    } else {
+        b"not so: ".as_slice()
+    })?;
     out.extend_from_slice(row.title.as_bytes())?;
     out.push(b'\n')?;
     if !is_so {

@@ -37,12 +37,7 @@ pub fn call(
 }
 
 /// Calls the program over an input, with room for an output of so many bytes and no fault.
-pub fn ends_within(
-    alloc: Global,
-    words: &str,
-    input: &[u8],
-    room: usize,
-) -> Result<Ended, Fail> {
+pub fn ends_within(alloc: Global, words: &str, input: &[u8], room: usize) -> Result<Ended, Fail> {
     let mut source = MemSource::new(input.to_vec(alloc)?, 4096, Vec::new(alloc));
     let mut sink = MemSink::new(alloc, room, 65536, Vec::new(alloc))?;
     let mut err = MemSink::new(alloc, 128, 128, Vec::new(alloc))?;

@@ -7,10 +7,10 @@ ghost use Rattle.op_model.specs.Parts.Part.{part_at_start};
 ghost use Rattle.lane_table.specs.Rule.{parts_from};
 ghost use Rattle.lane_table.specs.Views.{AreSeatsOf, IsSeatOf};
 
-use node_box::{Named, NodeBox, Turn};
 use lane_table::{LaneTable, NodeSeat, NodeSeats};
 use line_map::Machine;
 use magic_node::MagicNode;
+use node_box::{Named, NodeBox, Turn};
 use op_model::{Class, Event, EvictKind, Kind, Numbered, Op, Program};
 use sharer_dir::LinkedDir;
 use std::alloc::Global;
