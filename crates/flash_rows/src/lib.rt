@@ -13,3 +13,5 @@ mod lists;
 mod refusals;
 #[cfg(test)]
 mod reports;
+#[cfg(test)]
+mod views;

@@ -272,7 +272,7 @@ fn skipped_lines(rt: HostRuntime) -> Result<(), Fail> {
 }
 
 /// Words that are no form of a command.
-const MISUSES: [&str; 21] = [
+const MISUSES: [&str; 29] = [
     "",
     "serial serial",
     "seeded",
@@ -294,6 +294,14 @@ const MISUSES: [&str; 21] = [
     "bits",
     "bits gen",
     "bits seeded 1",
+    "at",
+    "at x",
+    "at 1000001",
+    "at 1 2",
+    "story",
+    "story -",
+    "story 4294967296",
+    "story 18446744073709551616",
 ];
 
 #[test]
@@ -306,7 +314,7 @@ fn words(rt: HostRuntime) -> Result<(), Fail> {
         assert_eq!(rt; ended.output.as_slice(), b"".as_slice());
         assert_eq!(rt;
             ended.told.as_slice(),
-            b"flash: usage: serial, seeded S, replay, run, gen K S, check, bits serial, bits replay\n".as_slice()
+            b"flash: usage: serial, seeded S, replay, run, gen K S, check, bits serial, bits replay, at T, story G\n".as_slice()
         );
     }
     Ok(())
