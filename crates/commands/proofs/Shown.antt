@@ -1,33 +1,18 @@
 -- What is shown of a machine that was at a trace's start and has made steps of the trace.
-use Rattle.std.proofs.Common.{◌≡◌, ℕ, ◌+◌, ◌<◌, List, [], ◌++◌, length, take, sym, ap, subst, ◌∙◌}
+use Rattle.std.proofs.Common.{◌≡◌, ℕ, ◌+◌, ◌<◌, List, ◌++◌, length, sym, ap, subst, ◌∙◌}
 use Rattle.std.proofs.lemmas.List.{length_push}
-use Rattle.std.proofs.lemmas.List.Elements.{All-take}
 use Rattle.line_map.specs.Sizes.{all_lines}
 use Rattle.op_model.specs.declared.events.Event.{Event}
 use Rattle.op_model.specs.Run.Machines.{MachineRun, IsApplied}
 use Rattle.op_model.specs.Run.Runs.{run_by}
 use Rattle.op_model.specs.Shares.{Trace, Linked}
-use Rattle.step_journal.specs.Steps.{IsStep, AreSteps}
-use Rattle.time_view.specs.Stories.{StoryView, story_of}
+use Rattle.time_view.specs.Stories.{StoryView, first_story, story_of, story_text}
 use Rattle.command_words.specs.declared.command.View.{View}
-use Rattle.commands.specs.declared.replaying.ReplayError.{ReplayError}
-use Rattle.commands.specs.declared.replaying.ReplayError.TheVariants.{NotEnabled, Memory}
 use Rattle.commands.specs.Runs.{machine_at_start}
-use Rattle.commands.specs.Steps.{AreStepsOf, HasMade, IsRefusedAt, IsStopped}
-use Rattle.commands.specs.Views.{IsThere, IsView, IsNoView, steps_of, text_of, error_of_replay}
-use Rattle.commands.proofs.Followed.{journal-steps}
+use Rattle.commands.specs.Steps.{HasMade}
+use Rattle.commands.specs.Views.{IsThere, IsView, steps_of, text_of}
 
--- ---- the steps
-
--- the first steps of a trace are steps of its machine
-pub first-steps : (old : MachineRun) (trace : Trace) (count : ℕ) → old ≡ machine_at_start Linked trace → AreSteps trace.sizes trace.steps → AreStepsOf old (take count trace.steps)
-first-steps old trace count fresh are =
-    journal-steps old trace (take count trace.steps) (fresh ∙ ap (λ (m : MachineRun). machine_at_start m.charge trace) (sym fresh)) (All-take (IsStep trace.sizes) count trace.steps are)
-
-pub all-steps : (old : MachineRun) (trace : Trace) → old ≡ machine_at_start Linked trace → AreSteps trace.sizes trace.steps → AreStepsOf old trace.steps
-all-steps old trace fresh are = journal-steps old trace trace.steps (fresh ∙ ap (λ (m : MachineRun). machine_at_start m.charge trace) (sym fresh)) are
-
--- ---- the text
+-- ---- a text
 
 pub shown-by : (view : View) (trace : Trace) (old new : MachineRun) (text : List ℕ) → IsThere view trace → old ≡ machine_at_start Linked trace → HasMade old (steps_of view trace) new → text ≡ text_of view new → IsView view trace text
 shown-by view trace old new text there fresh made is = record {
@@ -36,11 +21,6 @@ shown-by view trace old new text there fresh made is = record {
   ran = sym (ap (λ (m : MachineRun). run_by m.charge m.sizes m.programs m.past (steps_of view trace)) fresh) ∙ made.ran;
   printed = is ∙ ap (text_of view) (made.went ∙ ap (λ (m : MachineRun). record m { events = m.events ++ steps_of view trace; past = new.past }) fresh);
 }
-
-pub halted-by : (view : View) (trace : Trace) (old : MachineRun) (error : ReplayError) → IsThere view trace → old ≡ machine_at_start Linked trace → IsStopped old (steps_of view trace) error → IsNoView view trace (error_of_replay error)
-halted-by view trace old (NotEnabled step cause) there fresh stopped =
-    record { there = there; refused = subst (λ (m : MachineRun). IsRefusedAt m (steps_of view trace) step cause) fresh stopped }
-halted-by view trace old Memory there fresh stopped = tt
 
 -- ---- a story
 
@@ -55,6 +35,11 @@ told-steps m line story told = ap (λ (s : StoryView). s.steps) told
 -- it is told of its own line
 pub own-line : (m : MachineRun) (line : ℕ) (story : StoryView) → story ≡ story_of m line → story ≡ story_of m story.line
 own-line m line story told = told ∙ ap (story_of m) (sym (told-line m line story told))
+
+-- its text is that of the story of its line, in the run that it was told of
+pub told-text : (m : MachineRun) (begun now : StoryView) (line : ℕ) (text : List ℕ) → begun ≡ first_story line → now ≡ story_of m begun.line → ((other : MachineRun) → now ≡ story_of other now.line → text ≡ story_text other now.line) → text ≡ story_text m line
+told-text m begun now line text first told printed =
+    printed m (own-line m begun.line now told) ∙ ap (story_text m) (told-line m begun.line now told ∙ ap (λ (s : StoryView). s.line) first)
 
 -- a machine has made one event more than a story was told of; what reads it sees that run
 module _ (before after seen : MachineRun) (event : Event) (line : ℕ) (story : StoryView) (same : seen ≡ after) (applied : IsApplied before event after) (told : story ≡ story_of before line) where

@@ -15,6 +15,7 @@ use crate::replaying::{ReplayError, replay, stopped};
 use command_words::View;
 use lane_queues::RingLanes;
 use machine::Machine1;
+use machine_face::MachineFace;
 use op_model::{Cause, Event, NoMemory};
 use sharer_dir::LinkedDir;
 use std::alloc::Global;
@@ -76,8 +77,9 @@ fn state_after<M: Playable>(
     ensures text { IfOk result (λ text. IsView (View.At steps) trace.now text.items) }
     ensures err { IfErr result (λ error. IsNoView (View.At steps) trace.now error) }
 {
-    if let Err(error) = replay(m, &trace.steps()[..steps as usize]) {
-        return Err(halted(error));
+    match replay(m, &trace.steps()[..steps as usize]) {
+        Ok(()) => {}
+        Err(error) => return Err(halted(error)),
     }
     match state_text(alloc, m) {
         Ok(text) => Ok(text),
@@ -100,7 +102,7 @@ fn replay_noted<M: Playable>(
     ensures stopped { IfErr result (IsStopped (M.MachineFace.meaning m.old) steps.now) }
 {
     // The machine says here what it keeps.
-    let _cfg = m.cfg();
+    let _cfg = MachineFace::cfg(m);
     let mut made = 0;
     for step in steps {
         made += 1;
@@ -132,8 +134,9 @@ fn line_story<M: Playable>(
         Ok(story) => story,
         Err(_) => return Err(ViewError::Memory),
     };
-    if let Err(error) = replay_noted(m, trace.steps(), &mut story) {
-        return Err(halted(error));
+    match replay_noted(m, trace.steps(), &mut story) {
+        Ok(()) => {}
+        Err(error) => return Err(halted(error)),
     }
     match story.text(alloc) {
         Ok(text) => Ok(text),
