@@ -3,8 +3,8 @@ use Rattle.std.specs.Prelude.{ℕ, nat_le, if◌then◌else◌, List, [], ◌∷
 use Rattle.std.specs.Str.{bytes_eq}
 use Rattle.text_lines.specs.declared.numbers.WordCause.{WordCause}
 use Rattle.text_lines.specs.Numbers.{decimal_word}
-use Rattle.command_words.specs.declared.command.Play.{Play}
 use Rattle.command_words.specs.declared.command.Play.TheVariants.{Serial, Seeded, Replay, Gen}
+use Rattle.command_words.specs.declared.command.View.TheVariants.{At, Story}
 use Rattle.command_words.specs.declared.command.Lists.TheVariants.{Linked, Bits}
 use Rattle.command_words.specs.declared.command.Command.{Command}
 use Rattle.command_words.specs.declared.command.Command.TheVariants as asked
@@ -18,6 +18,19 @@ meant_by ((one, command) ∷ others) word = if bytes_eq word one then command el
 abbrev pub with_number : (ℕ → Command) → Result ℕ WordCause → Option Command
 with_number make (Ok number) = Some (make number)
 with_number make (Err cause) = None
+
+-- a command with a number, which is decimal and not above this one
+abbrev pub with_number_up_to : ℕ → (ℕ → Command) → Result ℕ WordCause → Option Command
+with_number_up_to most make (Ok number) = if nat_le number most then Some (make number) else None
+with_number_up_to most make (Err cause) = None
+
+-- the state after at most 1,000,000 steps
+abbrev pub at_by : List ℕ → Option Command
+at_by number = with_number_up_to 1000000 (λ steps. asked.View (At steps)) (decimal_word number)
+
+-- the story of a line, whose number has at most 32 bits
+abbrev pub story_by : List ℕ → Option Command
+story_by number = with_number_up_to 4294967295 (λ line. asked.View (Story line)) (decimal_word number)
 
 -- at most 100,000 operations are generated
 abbrev pub generated_by : Result ℕ WordCause → Result ℕ WordCause → Option Command
@@ -41,6 +54,8 @@ command_of (word ∷ []) =
 command_of (word ∷ number ∷ []) =
     meant_by ((codes "seeded", with_number (λ seed. asked.Play (Seeded seed) Linked) (decimal_word number)) ∷
     (codes "bits", over_bits_by number) ∷
+    (codes "at", at_by number) ∷
+    (codes "story", story_by number) ∷
     []) word
 command_of (word ∷ count ∷ seed ∷ []) =
     meant_by ((codes "gen", generated_by (decimal_word count) (decimal_word seed)) ∷

@@ -1,12 +1,15 @@
 //! Commands and their words.
 
 ghost use Rattle.std.specs.Prelude.{◌≡◌, ◌∷◌, [], map, string_bytes};
-ghost use Rattle.command_words.specs.Words.{command_of, over_bits_by};
+ghost use Rattle.command_words.specs.Words.{command_of, over_bits_by, at_by, story_by};
 
 use text_lines::decimal;
 
 /// How many operations a trace that is generated may have.
 const MOST_GENERATED: u64 = 100_000;
+
+/// How many steps may be asked for. A trace has no more.
+const MOST_STEPS: u64 = 1_000_000;
 
 /// A run that the program makes of a trace.
 #[derive(Clone, Copy, Debug, PartialEq, Eq)]
@@ -19,6 +22,15 @@ pub enum Play {
     Replay,
     /// Runs a generated trace by the serial schedule, and sums up.
     Gen { count: u32, seed: u64 },
+}
+
+/// What the program shows of the run that a trace's own steps make.
+#[derive(Clone, Copy, Debug, PartialEq, Eq)]
+pub enum View {
+    /// The state after the first steps of a trace.
+    At { steps: u64 },
+    /// The headers that a line has had.
+    Story { line: u32 },
 }
 
 /// How the homes list the nodes that share a line.
@@ -35,6 +47,8 @@ pub enum Lists {
 pub enum Command {
     /// Makes a run over lists of one kind, and prints it.
     Play(Play, Lists),
+    /// Runs the trace's own steps, and prints what is asked of that run.
+    View(View),
     /// Judges a printed history by the trace before it.
     Check,
 }
@@ -60,6 +74,27 @@ fn over_bits(word: &str) -> Option<Command>
     }
 }
 
+fn at_steps(number: &str) -> Option<Command>
+    ensures { result ≡ at_by number.now }
+{
+    let steps = decimal(number.as_bytes()).ok()?;
+    if steps > MOST_STEPS {
+        return None;
+    }
+    Some(Command::View(View::At { steps }))
+}
+
+fn story_of_line(number: &str) -> Option<Command>
+    ensures { result ≡ story_by number.now }
+{
+    let line = decimal(number.as_bytes()).ok()?;
+    if line > u64::from(u32::MAX) {
+        return None;
+    }
+    let line = line as u32;
+    Some(Command::View(View::Story { line }))
+}
+
 fn two_words(word: &str, number: &str) -> Option<Command>
     ensures { result ≡ command_of (word.now ∷ number.now ∷ []) }
 {
@@ -69,6 +104,8 @@ fn two_words(word: &str, number: &str) -> Option<Command>
             Some(Command::Play(Play::Seeded { seed }, Lists::Linked))
         }
         "bits" => over_bits(number),
+        "at" => at_steps(number),
+        "story" => story_of_line(number),
         _ => None,
     }
 }
@@ -91,7 +128,7 @@ fn three_words(word: &str, count: &str, seed: &str) -> Option<Command>
 }
 
 impl Command {
-    /// The command that words name: `serial`, `seeded S`, `replay`, `gen K S`, `check`, `bits serial` or `bits replay`. They are matched whole. S is a decimal number below 2^64, and K one up to 100,000.
+    /// The command that words name: `serial`, `seeded S`, `replay`, `gen K S`, `check`, `bits serial`, `bits replay`, `at T` or `story G`. They are matched whole. S is a decimal number below 2^64, K one up to 100,000, T one up to 1,000,000 and G one up to 4,294,967,295.
     pub fn of_words(words: &[String]) -> Option<Command>
         ensures { result ≡ command_of (map string_bytes words.now) }
     {

@@ -1,5 +1,5 @@
 -- A journal that runs is made whole, and the finishing schedule behind it completes all operations.
-use Rattle.std.proofs.Common.{◌≡◌, ℕ, zero, suc, List, [], ◌∷◌, ◌++◌, length, take, slice_get, refl, sym, ap, subst, ◌∙◌, Option, Some, None, Result, Ok, Err}
+use Rattle.std.proofs.Common.{◌≡◌, ℕ, zero, suc, List, [], ◌∷◌, ◌++◌, length, take, slice_get, refl, sym, ap, subst, ◌∙◌, Some, Result, Ok, Err}
 use Rattle.std.proofs.lemmas.Option.{slice_get_within, get_or_from_slice_get}
 use Rattle.line_map.specs.Sizes.{Sizes}
 use Rattle.op_model.specs.declared.events.Cause.{Cause}
@@ -9,7 +9,7 @@ use Rattle.op_model.specs.Events.Step.{Programs, Done, effect, and_then}
 use Rattle.op_model.specs.Run.History.{IsOneHistory}
 use Rattle.op_model.specs.Run.Machines.{MachineRun, IsEventOf}
 use Rattle.op_model.specs.Run.Runs.{Past, past_after, run, run_by, run_from, start}
-use Rattle.op_model.specs.Shares.{Trace, Charge, Linked, program}
+use Rattle.op_model.specs.Shares.{Trace, Charge, Linked}
 use Rattle.rest_laws.proofs.Deliver.{run-on}
 use Rattle.schedule.specs.Made.{HasFinished, gone_on}
 use Rattle.dir_report.specs.Machines.{report_of}

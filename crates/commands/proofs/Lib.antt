@@ -6,3 +6,4 @@ pub mod Programs
 pub mod FreshDirs
 pub mod Started
 pub mod Followed
+pub mod Shown

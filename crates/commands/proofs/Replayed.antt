@@ -1,10 +1,10 @@
 -- One step more: a machine that has made the steps before a place, and then makes the step there, has made the steps behind it too.
-use Rattle.std.proofs.Common.{◌≡◌, ℕ, ◌+◌, ◌<◌, suc, List, [], ◌∷◌, ◌++◌, length, take, get_or, slice_get, refl, sym, ap, subst, ◌∙◌, append_assoc, add-one, Some}
+use Rattle.std.proofs.Common.{◌≡◌, ℕ, ◌+◌, ◌<◌, List, [], ◌∷◌, ◌++◌, length, take, get_or, refl, sym, ap, ◌∙◌, append_assoc, add-one, Some}
 use Rattle.std.proofs.Math.Seq.{take-suc}
 use Rattle.std.proofs.lemmas.Option.{slice_get-get_or}
 use Rattle.op_model.specs.declared.events.Event.{Event}
 use Rattle.op_model.specs.Events.Step.{effect}
-use Rattle.op_model.specs.Run.Machines.{MachineRun, IsApplied, effect_on, with_event}
+use Rattle.op_model.specs.Run.Machines.{MachineRun, IsApplied, effect_on}
 use Rattle.op_model.specs.Run.Runs.{Past, past_after, run_by}
 use Rattle.op_model.proofs.Runs.{run-push}
 use Rattle.machine_face.specs.Runs.{IsRefused}

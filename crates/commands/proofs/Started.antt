@@ -1,5 +1,5 @@
 -- A machine that is made of a trace's programs is the machine of the trace at its start.
-use Rattle.std.proofs.Common.{◌≡◌, ℕ, List, [], map, ap, ◌∙◌, IfOk, Result, Ok, Err}
+use Rattle.std.proofs.Common.{◌≡◌, List, [], map, ap, ◌∙◌, IfOk, Result, Ok, Err}
 use Rattle.line_map.specs.Sizes.{Sizes}
 use Rattle.op_model.specs.declared.operations.Op.{Op}
 use Rattle.op_model.specs.Shares.{Trace, Charge}

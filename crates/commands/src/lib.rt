@@ -7,7 +7,9 @@ mod playable;
 mod playing;
 mod replaying;
 mod texts;
+mod viewing;
 
 pub use journaled::journal_output;
 pub use replaying::ReplayError;
 pub use texts::{bits_text, command_text, command_text_over};
+pub use viewing::{ViewError, view_text};

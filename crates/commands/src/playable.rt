@@ -3,14 +3,14 @@
 ghost use Rattle.std.specs.Prelude.{◌≡◌, refl};
 
 use dir_header::Sharers;
-use dir_report::Reported;
 use lane_queues::Lanes;
 use machine::Machine1;
 use machine_face::MachineFace;
 use op_model::Event;
+use time_view::Viewed;
 
-/// A machine that is driven through a run, and whose report is of that run.
-pub trait Playable: MachineFace + Reported {
+/// A machine that is driven through a run, and whose texts are of that run.
+pub trait Playable: MachineFace + Viewed {
     /// The events that the machine has made, in their order.
     fn events(&self) -> &[Event]
         ensures { result.now ≡ (Self.MachineFace.meaning self.now).events };

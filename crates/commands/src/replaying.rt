@@ -16,7 +16,8 @@ pub enum ReplayError {
     Memory,
 }
 
-fn stopped(step: u64, error: ApplyError) -> ReplayError
+/// How a machine that refuses the step of this number stops the steps.
+pub(crate) fn stopped(step: u64, error: ApplyError) -> ReplayError
     ensures { result ≡ stopped_at step error }
 {
     match error {

@@ -7,12 +7,12 @@ use Rattle.trace_text.specs.CauseNames.{cause_name}
 use Rattle.hist_check.specs.declared.fault.EntryCause.{EntryCause}
 use Rattle.hist_check.specs.CauseNames.{cause_name as entry_cause_name}
 use Rattle.flash_top.specs.declared.status.Status.{Status}
-use Rattle.flash_top.specs.declared.status.Status.TheVariants.{Done, Usage, BadTrace, TooLong, TooManyOps, TooManySteps, ReadFault, WriteFault, Memory, NotEnabled, IllegalHistory}
+use Rattle.flash_top.specs.declared.status.Status.TheVariants.{Done, Usage, BadTrace, TooLong, TooManyOps, TooManySteps, ReadFault, WriteFault, Memory, NotEnabled, IllegalHistory, TooFar, NoLine}
 
 -- the texts that are always the same
 abbrev pub fixed_text : Status → List ℕ
 fixed_text Done = []
-fixed_text Usage = codes "flash: usage: serial, seeded S, replay, run, gen K S, check, bits serial, bits replay\n"
+fixed_text Usage = codes "flash: usage: serial, seeded S, replay, run, gen K S, check, bits serial, bits replay, at T, story G\n"
 fixed_text (BadTrace line cause) = []
 fixed_text TooLong = codes "flash: more than 16777216 bytes\n"
 fixed_text TooManyOps = codes "flash: more than 100000 operations\n"
@@ -22,6 +22,8 @@ fixed_text WriteFault = codes "flash: write fault\n"
 fixed_text Memory = codes "flash: no memory\n"
 fixed_text (NotEnabled step cause) = []
 fixed_text (IllegalHistory entry cause) = []
+fixed_text (TooFar count) = []
+fixed_text (NoLine line) = []
 
 -- what is refused, by its number, and its cause
 abbrev pub numbered_text : List ℕ → ℕ → List ℕ → List ℕ
@@ -32,6 +34,8 @@ abbrev pub fault_text : Status → List ℕ
 fault_text (BadTrace line cause) = numbered_text (codes "flash: line ") line (cause_name cause)
 fault_text (NotEnabled step cause) = numbered_text (codes "flash: step ") step (step_cause_name cause)
 fault_text (IllegalHistory entry cause) = numbered_text (codes "flash: entry ") entry (entry_cause_name cause)
+fault_text (TooFar count) = codes "flash: only " ++ (decimal count ++ codes " steps\n")
+fault_text (NoLine line) = codes "flash: no line " ++ (decimal line ++ codes "\n")
 fault_text status = fixed_text status
 
 abbrev pub code_of : Status → ℕ
@@ -46,3 +50,5 @@ code_of WriteFault = 4
 code_of Memory = 5
 code_of (NotEnabled step cause) = 6
 code_of (IllegalHistory entry cause) = 7
+code_of (TooFar count) = 8
+code_of (NoLine line) = 9

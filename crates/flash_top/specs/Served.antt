@@ -21,13 +21,17 @@ use Rattle.command_words.specs.declared.command.Lists.{Lists}
 use Rattle.command_words.specs.declared.command.Lists.TheVariants as lists
 use Rattle.command_words.specs.declared.command.Play.{Play}
 use Rattle.command_words.specs.declared.command.Play.TheVariants.{Gen}
+use Rattle.command_words.specs.declared.command.View.{View}
 use Rattle.command_words.specs.Words.{command_of}
 use Rattle.commands.specs.declared.replaying.ReplayError.{ReplayError}
 use Rattle.commands.specs.declared.replaying.ReplayError.TheVariants as replay
+use Rattle.commands.specs.declared.viewing.ViewError.{ViewError}
+use Rattle.commands.specs.declared.viewing.ViewError.TheVariants as view
 use Rattle.commands.specs.Runs.{IsOutput, IsRefusedIn}
+use Rattle.commands.specs.Views.{IsView, IsNoView}
 use Rattle.run_text.specs.Runs.{IsRunOutput}
 use Rattle.flash_top.specs.declared.status.Status.{Status}
-use Rattle.flash_top.specs.declared.status.Status.TheVariants.{Done, Usage, BadTrace, TooLong, TooManyOps, TooManySteps, ReadFault, WriteFault, Memory, NotEnabled, IllegalHistory}
+use Rattle.flash_top.specs.declared.status.Status.TheVariants.{Done, Usage, BadTrace, TooLong, TooManyOps, TooManySteps, ReadFault, WriteFault, Memory, NotEnabled, IllegalHistory, TooFar, NoLine}
 
 -- what a call saw of its source: the bytes that are left, where they are told, and the count of faults, before and after it
 pub record SourceSeen : Type 0 where
@@ -88,9 +92,16 @@ pub record PlaysText (play : Play) (kind : Lists) (source : SourceSeen) (text : 
   pub input : IsInput play source trace
   pub right : IsOutput play (charge_of kind) trace text
 
+-- this text is what is shown of the trace that the source has
+pub record ShowsText (shown : View) (source : SourceSeen) (text : List ℕ) : Type 0 where
+  pub trace : Trace
+  pub input : Reads source (λ bytes. trace_of bytes ≡ Ok trace)
+  pub right : IsView shown trace text
+
 -- what a command writes of what its source had
 abbrev pub IsTextOf : Command → SourceSeen → List ℕ → Type 0
 IsTextOf (asked.Play play kind) source text = PlaysText play kind source text
+IsTextOf (asked.View shown) source text = ShowsText shown source text
 IsTextOf asked.Check source text = Reads source (λ bytes. IsChecked bytes text)
 
 -- What is read came to nothing, and so the call ended: reading stopped, or the bytes that came are refused for this fault
@@ -131,6 +142,18 @@ abbrev pub IsUnplayed : Status → Play → Lists → SourceSeen → Type 0
 IsUnplayed (NotEnabled step cause) play kind source = IsHalted play kind source step cause
 IsUnplayed status play kind source = IsNoInput status play source
 
+-- nothing is shown of the trace that the source has, for this cause
+pub record ShowsNone (shown : View) (source : SourceSeen) (cause : ViewError) : Type 0 where
+  pub trace : Trace
+  pub input : Reads source (λ bytes. trace_of bytes ≡ Ok trace)
+  pub right : IsNoView shown trace cause
+
+abbrev pub IsUnshown : Status → View → SourceSeen → Type 0
+IsUnshown (TooFar count) shown source = ShowsNone shown source (view.TooFar count)
+IsUnshown (NoLine line) shown source = ShowsNone shown source (view.NoLine line)
+IsUnshown (NotEnabled step cause) shown source = ShowsNone shown source (view.NotEnabled step cause)
+IsUnshown status shown source = IsUnreadable IsNoTrace status source
+
 abbrev pub IsUnchecked : Status → SourceSeen → Type 0
 IsUnchecked (IllegalHistory entry cause) source = Reads source (λ bytes. IsUncheckable bytes (check.IllegalHistory entry cause))
 IsUnchecked status source = IsUnreadable IsNoReport status source
@@ -138,6 +161,7 @@ IsUnchecked status source = IsUnreadable IsNoReport status source
 -- why a command writes no text, and so the call ended. Want of memory may come at any place before the first byte is written
 abbrev pub HasNoText : Status → Command → SourceSeen → Type 0
 HasNoText status (asked.Play play kind) source = IsUnplayed status play kind source
+HasNoText status (asked.View shown) source = IsUnshown status shown source
 HasNoText status asked.Check source = IsUnchecked status source
 
 -- a text that is so was written
@@ -213,6 +237,12 @@ status_of_refusal error.Memory = Memory
 abbrev pub status_of_replay : ReplayError → Status
 status_of_replay (replay.NotEnabled step cause) = NotEnabled step cause
 status_of_replay replay.Memory = Memory
+
+abbrev pub status_of_view : ViewError → Status
+status_of_view (view.TooFar count) = TooFar count
+status_of_view (view.NoLine line) = NoLine line
+status_of_view (view.NotEnabled step cause) = NotEnabled step cause
+status_of_view view.Memory = Memory
 
 abbrev pub status_of_check : CheckRefusal → Status
 status_of_check (check.Input fault) = status_of_refusal fault

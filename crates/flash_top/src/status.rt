@@ -31,6 +31,10 @@ pub enum Status {
     NotEnabled { step: u64, cause: Cause },
     /// The printed history isn't good: its first bad entry, counted from 1, with the first cause of it.
     IllegalHistory { entry: u64, cause: EntryCause },
+    /// The trace has fewer steps than were asked for: so many.
+    TooFar { count: u64 },
+    /// The machine has no line of this number.
+    NoLine { line: u32 },
 }
 
 impl Status {
@@ -50,6 +54,8 @@ impl Status {
             Status::Memory => 5,
             Status::NotEnabled { .. } => 6,
             Status::IllegalHistory { .. } => 7,
+            Status::TooFar { .. } => 8,
+            Status::NoLine { .. } => 9,
         }
     }
 }

@@ -17,9 +17,11 @@ fn fixed(status: Status) -> &'static str
         Status::Done
         | Status::BadTrace { .. }
         | Status::NotEnabled { .. }
-        | Status::IllegalHistory { .. } => "",
+        | Status::IllegalHistory { .. }
+        | Status::TooFar { .. }
+        | Status::NoLine { .. } => "",
         Status::Usage =>
-            "flash: usage: serial, seeded S, replay, run, gen K S, check, bits serial, bits replay\n",
+            "flash: usage: serial, seeded S, replay, run, gen K S, check, bits serial, bits replay, at T, story G\n",
         Status::TooLong => "flash: more than 16777216 bytes\n",
         Status::TooManyOps => "flash: more than 100000 operations\n",
         Status::TooManySteps => "flash: more than 1000000 steps\n",
@@ -42,6 +44,16 @@ fn tell_numbered<F: Sink>(err: &mut F, what: &str, number: u64, cause: &str) -> 
     )
 }
 
+fn tell_number<F: Sink>(err: &mut F, before: &str, number: u64, after: &str) -> Result<(), Failed>
+    ensures whole { OnOk result (Appends (F.written err.old) (F.written err.new) (before.now ++ (decimal number ++ after.now))) }
+    ensures part { OnErr result (AppendsPart (F.written err.old) (F.written err.new) (before.now ++ (decimal number ++ after.now))) }
+    ensures cause { HasCause (F.faults err.old) (F.faults err.new) result }
+{
+    let mut digits = Buffer::new();
+    let number = digits.format(number).as_bytes();
+    write_pieces(err, &[before.as_bytes(), number, after.as_bytes()])
+}
+
 /// Writes the text of a status. What is written is a part of the text from its beginning, and all of it where no write failed.
 pub fn tell<F: Sink>(err: &mut F, status: Status) -> Result<(), Failed>
     ensures whole { OnOk result (Appends (F.written err.old) (F.written err.new) (fault_text status)) }
@@ -62,6 +74,8 @@ pub fn tell<F: Sink>(err: &mut F, status: Status) -> Result<(), Failed>
             entry,
             cause.name(),
         ),
+        Status::TooFar { count } => tell_number(err, "flash: only ", count, " steps\n"),
+        Status::NoLine { line } => tell_number(err, "flash: no line ", u64::from(line), "\n"),
         Status::Done
         | Status::Usage
         | Status::TooLong

@@ -9,14 +9,14 @@ ghost use Rattle.flash_top.specs.Faults.{fault_text};
 ghost use Rattle.trace_text.specs.Reading.{trace_of};
 ghost use Rattle.check_command.specs.Checked.{IsChecked};
 ghost use Rattle.commands.specs.Runs.{IsOutput, IsStoppedIn};
-ghost use Rattle.flash_top.specs.Served.{Reads, IsInput, IsNoInput, IsNoTrace, IsUnreadable, PlaysText, charge_of, IsUnplayed, IsUnchecked, IsTextOf, HasNoText, IsServed, IsRight, RunsText, IsRunServed, is_run as is_run_of, IsRightWithThreads, status_of_stop, status_of_refusal, status_of_replay, status_of_check};
+ghost use Rattle.flash_top.specs.Served.{Reads, IsInput, IsNoInput, IsNoTrace, IsUnreadable, PlaysText, charge_of, IsUnplayed, ShowsText, IsUnshown, IsUnchecked, IsTextOf, HasNoText, IsServed, IsRight, RunsText, IsRunServed, is_run as is_run_of, IsRightWithThreads, status_of_stop, status_of_refusal, status_of_replay, status_of_view, status_of_check};
 
 use crate::status::Status;
 use crate::tell::tell;
 use byte_io::{ReadStop, Sink, Source, read_all, write_all};
 use check_command::{CheckRefusal, check_text};
-use command_words::{Command, Lists, Play};
-use commands::{ReplayError, bits_text, command_text};
+use command_words::{Command, Lists, Play, View};
+use commands::{ReplayError, ViewError, bits_text, command_text, view_text};
 use run_text::{Gate, run_text};
 use std::alloc::Global;
 use std::sync::Wait;
@@ -50,6 +50,17 @@ fn halted(error: ReplayError) -> Status
     match error {
         ReplayError::NotEnabled { step, cause } => Status::NotEnabled { step, cause },
         ReplayError::Memory => Status::Memory,
+    }
+}
+
+fn unseen(error: ViewError) -> Status
+    ensures { result ≡ status_of_view error }
+{
+    match error {
+        ViewError::TooFar { count } => Status::TooFar { count },
+        ViewError::NoLine { line } => Status::NoLine { line },
+        ViewError::NotEnabled { step, cause } => Status::NotEnabled { step, cause },
+        ViewError::Memory => Status::Memory,
     }
 }
 
@@ -161,6 +172,32 @@ fn played<S: Source>(
     }
 }
 
+/// The text of what is shown of the trace that a source has, which is read to its end.
+fn shown<S: Source>(alloc: Global, view: View, source: &mut S) -> Result<Vec<u8>, Status>
+    ensures ok { IfOk result (λ text. ShowsText view
+        (record {
+          left_before = S.left source.old;
+          left_after = S.left source.new;
+          faults_before = S.faults source.old;
+          faults_after = S.faults source.new;
+        })
+        text.items) }
+    ensures err { IfErr result (λ status. IsUnshown status view
+        (record {
+          left_before = S.left source.old;
+          left_after = S.left source.new;
+          faults_before = S.faults source.old;
+          faults_after = S.faults source.new;
+        })) }
+    ensures faults { S.faults source.old ≤ S.faults source.new }
+{
+    let trace = read_in(alloc, source)?;
+    match view_text(alloc, view, &trace) {
+        Ok(text) => Ok(text),
+        Err(error) => Err(unseen(error)),
+    }
+}
+
 /// The text of the judgement on the history that a source has, which is read to its end.
 fn checked<S: Source>(alloc: Global, source: &mut S) -> Result<Vec<u8>, Status>
     ensures ok { IfOk result (λ text. Reads
@@ -211,6 +248,7 @@ fn text_of<S: Source>(alloc: Global, command: Command, source: &mut S) -> Result
 {
     match command {
         Command::Play(play, lists) => played(alloc, play, lists, source),
+        Command::View(view) => shown(alloc, view, source),
         Command::Check => checked(alloc, source),
     }
 }
@@ -248,7 +286,7 @@ fn serve<S: Source, K: Sink>(
     }
 }
 
-/// The program: `words` are its words without the program's name, and name a command. `serial`, `seeded S` and `replay` read a trace from the source, to its end, run it and write the report of the run to the sink; `gen K S` generates a trace, runs it and writes its summary; `bits serial` and `bits replay` do as `serial` and `replay` over bit vectors in the place of linked lists; `check` reads a trace and the report behind it, and writes how many entries its history has, where it is good. On every status but Done the status's text goes to `err`; where a write to it fails the rest of the text is left out, and the status stays.
+/// The program: `words` are its words without the program's name, and name a command. `serial`, `seeded S` and `replay` read a trace from the source, to its end, run it and write the report of the run to the sink; `gen K S` generates a trace, runs it and writes its summary; `bits serial` and `bits replay` do as `serial` and `replay` over bit vectors in the place of linked lists; `at T` reads a trace, makes its first T steps and writes the whole state behind them; `story G` reads a trace, makes all its steps and writes every header that line G has had; `check` reads a trace and the report behind it, and writes how many entries its history has, where it is good. On every status but Done the status's text goes to `err`; where a write to it fails the rest of the text is left out, and the status stays.
 pub fn plain_main<S: Source, K: Sink, F: Sink>(
     alloc: Global,
     words: &[String],

@@ -1,5 +1,5 @@
 -- The same empty directory stands at each node.
-use Rattle.std.proofs.Common.{◌≡◌, List, map, refl, arith, sym, subst, IfOk}
+use Rattle.std.proofs.Common.{◌≡◌, map, refl, arith, subst, IfOk}
 use Rattle.line_map.specs.Sizes.{Sizes, AreSizes}
 use Rattle.op_model.specs.Shares.{Charge}
 use Rattle.dir_header.specs.HomeSides.{IsFresh}

@@ -1,5 +1,5 @@
 -- The same empty directory stands at each node.
-use Rattle.std.proofs.Common.{◌≡◌, List, map, refl, sym, subst, IfOk}
+use Rattle.std.proofs.Common.{◌≡◌, map, refl, subst, IfOk}
 use Rattle.line_map.specs.Sizes.{Sizes, AreSizes}
 use Rattle.line_map.proofs.Sizable.{few-nodes}
 use Rattle.op_model.specs.Shares.{Charge}

@@ -1,5 +1,5 @@
 -- The machine is at the trace's start, so what it makes is the trace's seeded schedule, and the law says what that comes to.
-use Rattle.std.proofs.Common.{◌≡◌, refl, sym, ap, subst, List, length}
+use Rattle.std.proofs.Common.{refl, sym, ap, subst, List, length}
 use Rattle.op_model.specs.declared.operations.Op.{Op}
 use Rattle.op_model.specs.Run.Machines.{MachineRun}
 use Rattle.node_range.specs.Traces.{IsTraceOf}
