@@ -11,9 +11,6 @@ use std::thread::Threads;
 use thread_run::{Gate, run_threads};
 use trace_text::{Trace, programs};
 
-/// The length that no journal has room for.
-const TOO_MANY: usize = 1 << 63;
-
 /// What `run` writes of a trace. Its programs are run in threads, each processor and each controller as a role of its own; the journal of that run is made once more on the machine of one thread, which then completes what is left; and the text is that of all these steps and of the report of their run. It returns only if the threads come to their ends.
 pub fn run_text<R: Threads + Wait + Sync, G: Gate + Sync>(
     rt: &R,
@@ -26,8 +23,5 @@ pub fn run_text<R: Threads + Wait + Sync, G: Gate + Sync>(
     let cfg = trace.cfg();
     let programs = programs(alloc, trace)?;
     let ran = run_threads(rt, alloc, cfg, programs, gate)?;
-    if ran.journal.len() >= TOO_MANY {
-        return Err(NoMemory);
-    }
     journal_output(alloc, trace, &ran.journal)
 }

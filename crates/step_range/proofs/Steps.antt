@@ -1,6 +1,6 @@
 -- What an event names, where it is made: the node of an operation, a copy's line, the ends of a lane that has a message, or a line
 -- whose list isn't empty. Each is of the machine.
-use Rattle.std.proofs.Common.{◌≡◌, ℕ, ◌*◌, ◌/◌, ◌<◌, ◌≤◌, Bool, true, false, cond, ◌==◌, ◌&&◌, not, ◌⊎◌, inl, inr, List, [], ◌∷◌, ◌++◌, refl, arith, ap, sym, subst, ◌∙◌, Option, Some, None, Result, Ok, Err, div-lt_iff_lt-mul}
+use Rattle.std.proofs.Common.{◌≡◌, ℕ, ◌<◌, ◌≤◌, Bool, true, false, cond, ◌==◌, ◌&&◌, not, ◌⊎◌, inl, inr, List, [], ◌∷◌, ◌++◌, refl, arith, ap, sym, subst, ◌∙◌, Option, Some, None, Result, Ok, Err, div-lt_iff_lt-mul}
 use Rattle.std.specs.Prelude.{slice_get}
 use Rattle.std.proofs.lemmas.Bool.{cases_lt}
 use Rattle.std.proofs.lemmas.Bool.Decides.{nat_tests}
@@ -14,14 +14,14 @@ use Rattle.op_model.specs.declared.events.Event.TheVariants.{Hit, Issue, Evict, 
 use Rattle.op_model.specs.declared.events.EvictKind.{EvictKind}
 use Rattle.op_model.specs.declared.messages.Msg.{Msg}
 use Rattle.op_model.specs.declared.operations.Op.{Op}
-use Rattle.op_model.specs.Events.Node.{NodeOutcome, local, with_next, hit_next, issue_next, evict_line, departs, bind, by_row, map_ok, and_call, with_victim, asks_victim, fits_victim, taking, TakeFrom}
+use Rattle.op_model.specs.Events.Node.{NodeOutcome, local, with_next, hit_next, issue_next, evict_line, departs, bind, by_row, map_ok, and_call, with_victim, asks_victim, fits_victim, taking}
 use Rattle.op_model.specs.Events.Step.{Done, Off, none_off, one_off, act, effect, take_front, has_room, and_then}
 use Rattle.op_model.specs.Lines.{Absent, Outcome, is_empty}
 use Rattle.op_model.specs.Messages.{msg_line}
 use Rattle.op_model.specs.Nodes.{count}
 use Rattle.op_model.specs.Run.Runs.{Past, past_after, run, run_by, start}
 use Rattle.op_model.specs.Shares.{Charge, State, Trace, copy_of, header_of, program, room_of, line_share}
-use Rattle.op_model.specs.Tables.Processor.{evict, holds_link, reclaim}
+use Rattle.op_model.specs.Tables.Processor.{evict, reclaim}
 use Rattle.op_model.proofs.Runs.{run-push}
 use Rattle.message_range.proofs.Acts.{evicts-copy, reclaims-holder}
 use Rattle.node_range.specs.Range.{IsOfMachine, IsRanged}

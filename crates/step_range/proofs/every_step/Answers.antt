@@ -1,5 +1,4 @@
 -- Step by step from the start on.
-use Rattle.op_model.specs.Run.Runs.{start}
 use Rattle.step_range.proofs.Steps.{steps-of-run}
 use Rattle.step_range.proofs.every_step.Goals as goal
 
