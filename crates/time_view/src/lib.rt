@@ -13,6 +13,3 @@ mod viewed;
 pub use sections::state_text;
 pub use story::Story;
 pub use viewed::Viewed;
-
-#[cfg(test)]
-mod tests;
