@@ -1,4 +1,4 @@
--- What is told of a line, a step or an entry has the name of its cause.
+-- What is told of a line, a step or an entry has the name of its cause, and what is told of too few steps their number.
 use Rattle.flash_top.proofs.tell.tell.Goals as goal
 
 pub returns-in-BadTrace-clause-whole : goal.returns-in-BadTrace-clause-whole
@@ -18,3 +18,6 @@ returns-in-IllegalHistory-clause-whole g c = rw (c.in-IllegalHistory.is, ← c.n
 
 pub returns-in-IllegalHistory-clause-part : goal.returns-in-IllegalHistory-clause-part
 returns-in-IllegalHistory-clause-part g c = rw (c.in-IllegalHistory.is, ← c.name-in-IllegalHistory.ensures) c.tell_numbered-in-IllegalHistory.ensures.part
+
+pub returns-in-TooFar-clause-part : goal.returns-in-TooFar-clause-part
+returns-in-TooFar-clause-part g c = rw c.in-TooFar.is c.tell_number.ensures.part
