@@ -9,7 +9,6 @@ use byte_io::{read_all, write_all};
 use flash_top::{StdSink, StdSource};
 use row::{Row, outcome};
 use std::alloc::Global;
-use std::process::ExitCode;
 use std::test::Fail;
 
 /// Puts the row's title behind how it ended; where that isn't as it should be, also what it wrote.
@@ -47,19 +46,16 @@ fn told(alloc: Global, book: &str) -> Result<Vec<u8>, Fail> {
     Ok(out)
 }
 
-fn main(rt: HostRuntime) -> ExitCode {
-    let mut source = StdSource::new(rt.stdin());
-    let Ok(bytes) = read_all(rt.alloc(), &mut source) else {
-        return ExitCode::from(3);
+fn main(rt: HostRuntime) -> Result<(), Fail> {
+    let Ok(bytes) = read_all(rt.alloc(), &mut StdSource::new(rt.stdin())) else {
+        return Err(Fail::new("the book can't be read"));
     };
     let Ok(book) = String::from_utf8(bytes) else {
-        return ExitCode::from(2);
+        return Err(Fail::new("the book is no text"));
     };
-    let Ok(out) = told(rt.alloc(), &book) else {
-        return ExitCode::from(5);
-    };
+    let out = told(rt.alloc(), &book)?;
     match write_all(&mut StdSink::new(rt.stdout()), &out) {
-        Ok(()) => ExitCode::from(0),
-        Err(_) => ExitCode::from(4),
+        Ok(()) => Ok(()),
+        Err(_) => Err(Fail::new("the rows can't be told")),
     }
 }

@@ -5,6 +5,7 @@ use std::alloc::Global;
 use std::test::Fail;
 
 /// A call of the program, and how it is to end: its exit code in a line, then what is written.
+#[derive(Clone, Copy)]
 pub(crate) struct Row<'a> {
     pub(crate) title: &'a str,
     pub(crate) words: &'a str,
