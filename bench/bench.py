@@ -1,16 +1,16 @@
 #!/usr/bin/env python3
-"""Times the built program on growing inputs: the least time of some runs, the peak memory, and the time an event.
+"""Times the built program on growing inputs: the least time of some runs, the peak memory, and both for an event.
 
-usage: bench.py [RUNS]      (3 if none is given)
+usage: bench.py [RUNS [COMMAND]]      (3 runs of each command if none is given)
 
-The time holds the start of the program, reading and printing. The events are those that the report, or the summary, counts.
+The time holds the start of the program, reading and printing. The events are those that the report, or the summary, counts; of `run` they are those of the run whose time is shown, and the memory is that of another run.
 """
 import os
 import re
-import resource
 import subprocess
 import sys
 import time
+from functools import partial
 
 import traces
 
@@ -31,42 +31,49 @@ def run(words, text):
 
 
 def peak_of(words, text):
-    """The peak memory of one run in MiB, told by a process that starts nothing else."""
-    code = (
-        "import resource, subprocess, sys; "
-        "subprocess.run(sys.argv[1:], stdin=sys.stdin, stdout=subprocess.DEVNULL); "
-        "print(resource.getrusage(resource.RUSAGE_CHILDREN).ru_maxrss, file=sys.stderr)"
-    )
-    done = subprocess.run([sys.executable, "-c", code, PROGRAM, *words.split()], input=text, stderr=subprocess.PIPE, check=False)
-    return int(done.stderr.split()[-1]) / 1024
+    """The peak memory of one run in bytes, told by `time`: what Python itself would tell of a child holds the memory of Python."""
+    done = subprocess.run(["/usr/bin/time", "-f", "%M", PROGRAM, *words.split()], input=text, stdout=subprocess.DEVNULL, stderr=subprocess.PIPE, check=False)
+    return int(done.stderr.split()[-1]) * 1024
 
 
 def show(name, words, text, runs):
     data = text.encode()
     best, output = min((run(words, data) for _ in range(runs)), key=lambda pair: pair[0])
     events = int(re.search(rb"\nevents (\d+)\n", output).group(1))
-    each = f"{best / events * 1e9:8.0f} ns an event" if events else " " * 20
-    print(f"{name:44} {best * 1000:9.1f} ms {events:9} events {each} {peak_of(words, data):7.1f} MiB", flush=True)
+    peak = peak_of(words, data)
+    each = f"{best / events * 1e9:8.0f} ns and {peak / events:6.0f} bytes an event" if events else " " * 37
+    print(f"{name:44} {best * 1000:9.1f} ms {events:9} events {each} {peak / 2**20:7.1f} MiB", flush=True)
+
+
+def rows():
+    """What is timed: a name, the words of a command, and what makes its input."""
+    for nodes in (16, 64):
+        for links in (2048, 16):
+            for count in (25000, 50000, 100000):
+                yield f"serial, {nodes} nodes, {links} links, {count} operations", "serial", partial(traces.shared, nodes, count, links)
+    for count in (25000, 100000):
+        yield f"serial, home lines, {count} operations", "serial", partial(traces.home, count, 16, 1024, 4, 256)
+    for count in (25000, 50000, 100000):
+        yield f"gen {count} 1", f"gen {count} 1", str
+    for count in (250000, 500000, 1000000):
+        yield f"replay, {count} steps", "replay", partial(traces.steps, count)
+    for count in (5000, 10000, 20000):
+        yield f"seeded 1, 16 nodes, {count} operations", "seeded 1", partial(traces.shared, 16, count, 2048)
+    for nodes in (2, 8, 16):
+        for count in (5000, 10000, 20000):
+            yield f"run, {nodes} nodes, {count} operations", "run", partial(traces.shared, nodes, count, 2048)
+    for size in (4 << 20, 16 << 20):
+        yield f"serial, {size >> 20} MiB of comments", "serial", partial(traces.comments, size)
 
 
 def main():
     runs = int(sys.argv[1]) if len(sys.argv) > 1 else 3
+    command = sys.argv[2] if len(sys.argv) > 2 else None
     # The script builds the program where it isn't built yet; the times are those of the program itself.
     subprocess.run([FLASH], stdin=subprocess.DEVNULL, stderr=subprocess.DEVNULL, check=False)
-    for nodes in (16, 64):
-        for links in (2048, 16):
-            for count in (25000, 50000, 100000):
-                show(f"serial, {nodes} nodes, {links} links, {count} operations", "serial", traces.shared(nodes, count, links), runs)
-    for count in (25000, 100000):
-        show(f"serial, home lines, {count} operations", "serial", traces.home(count, 16, 1024, 4, 256), runs)
-    for count in (25000, 50000, 100000):
-        show(f"gen {count} 1", f"gen {count} 1", "", runs)
-    for count in (250000, 500000, 1000000):
-        show(f"replay, {count} steps", "replay", traces.steps(count), runs)
-    for count in (5000, 10000, 20000):
-        show(f"seeded 1, 16 nodes, {count} operations", "seeded 1", traces.shared(16, count, 2048), runs)
-    for size in (4 << 20, 16 << 20):
-        show(f"serial, {size >> 20} MiB of comments", "serial", traces.comments(size), runs)
+    for name, words, make in rows():
+        if command in (None, words.split()[0]):
+            show(name, words, make(), runs)
 
 
 main()
