@@ -20,7 +20,7 @@ PROGRAM = os.path.join(HERE, "..", "crates", "flash_main", "out", "flash_main")
 
 
 def run(words, text):
-    """The time, the peak memory in MiB and the output of one run."""
+    """The time and the output of one run."""
     start = time.perf_counter()
     process = subprocess.Popen([PROGRAM, *words.split()], stdin=subprocess.PIPE, stdout=subprocess.PIPE)
     output, _ = process.communicate(text)
