@@ -5,6 +5,7 @@ usage: traces.py shared NODES OPS LINKS      loads and writes of all nodes, most
        traces.py home OPS NODES LINES WORDS SETS   each node on its own memory
        traces.py steps STEPS                 a section of steps, each enabled: a node loads a line of another and gives it back
        traces.py comments BYTES              comments alone, and the smallest trace
+       traces.py generated OPS SEED          the trace that `flash gen OPS SEED` runs
 """
 import random
 import sys
@@ -54,7 +55,42 @@ def comments(size):
     return line * ((size - len(rest)) // len(line)) + rest
 
 
-KINDS = {"shared": shared, "home": home, "steps": steps, "comments": comments}
+WORD = (1 << 64) - 1
+
+
+def mixed(state):
+    """The word that the generator makes of a state."""
+    low = (((state >> 18) ^ state) >> 27) & 0xFFFFFFFF
+    turn = state >> 59
+    return (low >> turn | low << (32 - turn)) & 0xFFFFFFFF
+
+
+def pcg32(seed):
+    """The words of `Pcg32::seed_from_u64`."""
+    halves = []
+    for _ in range(4):
+        seed = (seed * 6364136223846793005 + 11634580027462260723) & WORD
+        halves.append(mixed(seed))
+    step = halves[2] | halves[3] << 32 | 1
+    state = (halves[0] | halves[1] << 32) + step
+    while True:
+        state = (state * 6364136223846793005 + step) & WORD
+        yield mixed(state)
+
+
+def generated(count, seed):
+    words = pcg32(seed)
+    out = [header(8, 1024, 16, 2048, 256)]
+    for _ in range(count):
+        a, b, c, d = (next(words) for _ in range(4))
+        node = a % 8
+        line = (c % 32, c % 8192)[b % 4] if b % 4 < 2 else node * 1024 + c % 1024
+        address = (line * 16 + c // 8192 % 16) * 8
+        out.append(f"{node} S {address:#x} {d}\n" if b // 4 % 4 == 0 else f"{node} L {address:#x}\n")
+    return "".join(out) + "end\n"
+
+
+KINDS = {"shared": shared, "home": home, "steps": steps, "comments": comments, "generated": generated}
 
 if __name__ == "__main__":
     if len(sys.argv) < 3 or sys.argv[1] not in KINDS:
