@@ -1,4 +1,4 @@
-//! The steps of a run, put in the place of its trace's last line, are replayed to the report that the run has printed.
+//! The steps of a run, put in the place of its trace's last line, are replayed to the report that the run has printed, and `check` finds that report's history good.
 
 use crate::calls::ends;
 use flash_top::{Gate, NoGate, Role};
@@ -46,6 +46,10 @@ fn generated(rt: HostRuntime) -> Result<(), Fail> {
     let replayed = ends(&rt, alloc, "replay", &again, MORE_THAN_NEEDED, &NoGate)?;
     assert_eq!(rt; replayed.code, 0);
     assert_eq!(rt; replayed.output.as_slice(), &ran.output[start..]);
+    again.extend_from_slice(&ran.output[start..])?;
+    let judged = ends(&rt, alloc, "check", &again, 4096, &NoGate)?;
+    assert_eq!(rt; judged.code, 0);
+    assert_eq!(rt; judged.output.as_slice(), b"flash check 1\nentries 1000\nmissing 0\nend\n".as_slice());
     Ok(())
 }
 
