@@ -1,0 +1,6 @@
+pub mod Lines
+pub mod Rows
+pub mod Beginnings
+pub mod Drains
+pub mod Kept
+pub mod Allowed
