@@ -4,3 +4,7 @@ pub mod Beginnings
 pub mod Drains
 pub mod Kept
 pub mod Allowed
+pub mod ShareRows
+pub mod BegunRows
+pub mod EachAct
+pub mod Acts
