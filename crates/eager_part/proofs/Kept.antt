@@ -25,6 +25,10 @@ use Rattle.eager_part.proofs.Drains.{ack-drains, hit-drains, home-drains, leave-
 use Rattle.eager_part.proofs.Lines.{IsLine, as-delayed, as-draining, as-eager}
 use Rattle.eager_part.proofs.Rows.{each-row}
 
+-- what a GetX that calls others is told by: the line isn't pending, and another node is listed
+pub asks-parts : (p d o f : Bool) → (not p && not d && not o && not f) ≡ true → (p ≡ false) × (o ≡ false)
+asks-parts p d o f e = (grind arith, grind arith)
+
 module _ (me home : ℕ) (s : LineShare) (line : me ≡ home → IsLine home s) where
   own : is_invalidate s.header.wait ≡ false → me ≡ home → IsOwnLine home s
   own calm same = as-delayed home s.header.wait s calm (line same)
@@ -91,9 +95,6 @@ module _ (me home : ℕ) (s : LineShare) (line : me ≡ home → IsLine home s) 
         let t = asks-parts (is_pending s.header) s.header.dirty (no_other sender s.header.list) room.full asks in
         let idle = idle-is s.header.wait t.0 in
         ((λ _. sender-drains home sender s apart (own (ap is_invalidate idle) same).unlisted t.1), inl (refl, refl, λ _. refl))
-      where
-        asks-parts : (p d o f : Bool) → (not p && not d && not o && not f) ≡ true → (p ≡ false) × (o ≡ false)
-        asks-parts p d o f e = (grind arith, grind arith)
 
     ack-quiet : IsQuiet s (on_inv_ack home sender s)
     unfolding on_inv_ack

@@ -8,3 +8,5 @@ pub mod ShareRows
 pub mod BegunRows
 pub mod EachAct
 pub mod Acts
+pub mod Fits
+pub mod Range
