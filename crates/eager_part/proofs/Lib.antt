@@ -10,3 +10,6 @@ pub mod EachAct
 pub mod Acts
 pub mod Fits
 pub mod Range
+pub mod Sends
+pub mod Places
+pub mod Starts

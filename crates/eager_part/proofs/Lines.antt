@@ -4,6 +4,7 @@ use Rattle.op_model.specs.declared.state.Grantee.TheVariants.{Me, Nobody, Node}
 use Rattle.op_model.specs.declared.state.Wait.{Wait}
 use Rattle.op_model.specs.declared.state.Wait.TheVariants.{Idle, Invalidate, ForwardGet, ForwardGetX}
 use Rattle.op_model.specs.Lines.{LineShare}
+use Rattle.op_model.specs.Nodes.{listed}
 use Rattle.op_model.specs.OwnPart.{IsOwnLine}
 use Rattle.op_model.specs.Tables.Remote.{is_invalidate}
 use Rattle.eager_model.specs.Rows.{Drain}
@@ -33,3 +34,12 @@ as-draining home (Invalidate Me) s called is = absurd is
 as-draining home (Invalidate (Node n)) s called is = (n, refl, is)
 as-draining home (ForwardGet r) s called is = absurd (cc)
 as-draining home (ForwardGetX r) s called is = absurd (cc)
+
+-- the home isn't listed
+pub home-unlisted : (home : ℕ) (wait : Wait) (s : LineShare) → IsEagerLine home wait s → listed s.header.list home ≡ false
+home-unlisted home Idle s is = is.unlisted
+home-unlisted home (Invalidate Nobody) s is = absurd is
+home-unlisted home (Invalidate Me) s is = absurd is
+home-unlisted home (Invalidate (Node n)) s is = is.unlisted
+home-unlisted home (ForwardGet r) s is = is.unlisted
+home-unlisted home (ForwardGetX r) s is = is.unlisted
