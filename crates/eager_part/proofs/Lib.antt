@@ -13,3 +13,4 @@ pub mod Range
 pub mod Sends
 pub mod Places
 pub mod Starts
+pub mod Needs
