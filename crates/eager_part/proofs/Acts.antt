@@ -1,5 +1,5 @@
 -- Whatever a node does by itself, and each message that it takes, keeps what holds of its share.
-use Rattle.std.proofs.Common.{◌≡◌, ◌≢◌, inl, inr, ℕ, Bool, true, false, ◌==◌, slice_get, List, refl, sym, ap, subst, ◌∙◌, Some, None, Ok}
+use Rattle.std.proofs.Common.{◌≡◌, ◌≢◌, inl, inr, ℕ, true, false, slice_get, List, refl, sym, subst, ◌∙◌, Some, None, Ok}
 use Rattle.line_map.specs.Sizes.{Sizes, home_of, line_of, set_of}
 use Rattle.op_model.specs.declared.events.EvictKind.{EvictKind}
 use Rattle.op_model.specs.declared.messages.Msg.{Msg}
@@ -7,7 +7,7 @@ use Rattle.op_model.specs.declared.operations.Op.{Op}
 use Rattle.op_model.specs.Events.Node.{Input, NodeOutcome, by_row}
 use Rattle.op_model.specs.Lines.{LineShare, Outcome, Room, is_empty}
 use Rattle.op_model.specs.Messages.{msg_content, msg_line}
-use Rattle.op_model.specs.Shares.{Share, Unlinked, conflicts, copy_of, is_set_empty, line_share, room_of, want_on}
+use Rattle.op_model.specs.Shares.{Share, Unlinked, conflicts, copy_of, is_set_empty, line_share, room_of}
 use Rattle.op_model.specs.Tables.Processor.{evict, hit, serves}
 use Rattle.op_model.proofs.Shares.{none-on, serves-copy}
 use Rattle.one_history.proofs.Sets.{none-conflicts}

@@ -1,16 +1,13 @@
 -- A row makes a line pending only where its home may have one more. Lists cost no links here.
-use Rattle.std.proofs.Common.{◌≡◌, ◌≢◌, ℕ, Bool, true, false, nat_le, ◌&&◌, not, refl, arith, sym, subst, ◌∙◌, Result, Ok}
+use Rattle.std.proofs.Common.{◌≡◌, ℕ, Bool, true, false, sym, ◌∙◌, Ok}
 use Rattle.op_model.specs.declared.operations.Op.{Op}
-use Rattle.op_model.specs.declared.state.Wait.{Wait}
-use Rattle.op_model.specs.declared.state.Wait.TheVariants.{Idle, Invalidate, ForwardGet, ForwardGetX}
 use Rattle.op_model.specs.Messages.{Content}
-use Rattle.op_model.specs.Lines.{Header, LineShare, Outcome, Room, is_idle, is_pending}
+use Rattle.op_model.specs.Lines.{Header, LineShare, Outcome, Room, is_pending}
 use Rattle.op_model.specs.Tables.Home.{no_other}
-use Rattle.op_model.specs.Tables.Remote.{is_invalidate}
 use Rattle.lane_bounds.proofs.Allowed.{IsAllowed, begin-allowed, message-allowed}
-use Rattle.eager_model.specs.Rows.{asks_shared, begin_op, on_message}
+use Rattle.eager_model.specs.Rows.{begin_op, on_message}
 use Rattle.eager_part.proofs.Beginnings.{each-beginning}
-use Rattle.eager_part.proofs.Rows.{called-pends, each-row}
+use Rattle.eager_part.proofs.Rows.{called-pends, each-row, shared-parts}
 
 module _ (room : Room) (unlinked : room.linked ≡ false) (s : LineShare) where
   abbrev pub Allowed : Outcome → Type 0
@@ -35,12 +32,9 @@ module _ (room : Room) (unlinked : room.linked ≡ false) (s : LineShare) where
       each-row me home sender alone room s content Allowed
       (record {
         delayed = λ _. message-allowed room s me home sender alone content;
-        gives = λ _ _ asks. left _ (free (is_pending s.header) s.header.dirty (no_other sender s.header.list) room.full asks);
+        gives = λ _ _ asks. left _ (shared-parts (is_pending s.header) s.header.dirty (no_other sender s.header.list) room.full asks).1;
         acknowledges = λ _ called _. pended _ (called-pends s.header.wait called);
         writes_back = λ _ _ _ called _. pended _ (called-pends s.header.wait called);
         refuses = λ _ _ _. stays;
         nothing = stays;
       })
-    where
-      free : (p d o f : Bool) → (not p && not d && not o && not f) ≡ true → f ≡ false
-      free p d o f e = grind arith

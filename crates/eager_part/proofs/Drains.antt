@@ -1,8 +1,7 @@
 -- What a row does to a line that drains, at its home: E1 and E2 begin it, E3 to E5 wait for fewer nodes, and the home's copy and the owner's words may go meanwhile.
-use Rattle.std.proofs.Common.{◌≡◌, ◌≢◌, ℕ, ◌-◌, ◌<◌, Bool, true, false, cond, nat_le, ◌==◌, ◌&&◌, not, refl, arith, sym, ap, subst, ◌∙◌, Result, Ok, Err}
+use Rattle.std.proofs.Common.{◌≡◌, ◌≢◌, ℕ, ◌-◌, ◌<◌, Bool, true, false, cond, nat_le, ◌==◌, ◌&&◌, not, refl, arith, sym, ap, subst, ◌∙◌}
 use Rattle.std.proofs.lemmas.Bool.{eqb-true, eqb-false}
 use Rattle.std.proofs.lemmas.Bool.Decides.{nat_tests}
-use Rattle.op_model.specs.declared.events.EvictKind.{EvictKind}
 use Rattle.op_model.specs.declared.operations.Op.{Op}
 use Rattle.op_model.specs.declared.state.Wait.TheVariants.{Idle}
 use Rattle.op_model.specs.Nodes.{Nodes, count, listed, listings, none, only, unlist}
@@ -10,7 +9,7 @@ use Rattle.op_model.specs.Operations.{Words}
 use Rattle.op_model.specs.Lines.{Absent, Copy, Exclusive, LineShare, Outcome, Shared, is_empty, is_exclusive, is_idle, nobody_listed}
 use Rattle.op_model.specs.OwnPart.{IsOwnLine}
 use Rattle.op_model.specs.Tables.Home.{no_other, on_wb}
-use Rattle.op_model.specs.Tables.Processor.{done_on, fits, hit, leave_home}
+use Rattle.op_model.specs.Tables.Processor.{done_on, hit, leave_home}
 use Rattle.line_invariant.proofs.Basics.{if-either}
 use Rattle.own_part.proofs.Basics.{above-none}
 use Rattle.own_part.proofs.BackRows.{count-only, not-owned}

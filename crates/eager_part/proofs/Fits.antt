@@ -1,25 +1,22 @@
 -- What a row of an eager node leaves and sends fits the machine. The nodes that the home calls in are listed, and neither the home nor a node that was granted the line is.
-use Rattle.std.proofs.Common.{◌≡◌, ◌≢◌, ℕ, ◌+◌, ◌<◌, ◌≤◌, Bool, true, false, nat_le, length, refl, arith, ap, sym, ◌∙◌, subst, Ok}
+use Rattle.std.proofs.Common.{◌≡◌, ◌≢◌, ℕ, ◌+◌, ◌<◌, ◌≤◌, Bool, true, false, nat_le, length, arith, ap, sym, ◌∙◌, subst, Ok}
 use Rattle.std.proofs.lemmas.Bool.Decides.{nat_tests}
 use Rattle.line_map.specs.Sizes.{Sizes}
 use Rattle.op_model.specs.declared.operations.Op.{Op}
-use Rattle.op_model.specs.Lines.{LineShare, Outcome, Room, is_pending, to_listed}
+use Rattle.op_model.specs.Lines.{LineShare, Outcome, Room, to_listed}
 use Rattle.op_model.specs.Messages.{Content}
-use Rattle.op_model.specs.Nodes.{Nodes, count, listed, listings, unlist}
+use Rattle.op_model.specs.Nodes.{Nodes, listed, listings, unlist}
 use Rattle.op_model.specs.Operations.{Words}
-use Rattle.op_model.specs.OwnPart.{IsOwnLine}
-use Rattle.op_model.specs.Tables.Home.{no_other, on_wb}
-use Rattle.op_model.specs.Tables.Remote.{is_invalidate}
+use Rattle.op_model.specs.Tables.Home.{on_wb}
 use Rattle.line_invariant.proofs.Basics.{if-either}
-use Rattle.own_part.proofs.Basics.{idle-is}
 use Rattle.message_range.specs.Fitting.{IsContentForOther}
 use Rattle.message_range.proofs.Rows.{IsFitting, IsWide, IsWideLine, listed-sends, none-few, one-few, op-width}
 use Rattle.message_range.proofs.Sets.{below-others, length-listed}
 use Rattle.message_range.proofs.TakeRows.{begin-fits, message-fits}
-use Rattle.eager_model.specs.Rows.{asks_shared, begin_op, give_and_drain, on_inv_ack, on_message, write_and_drain}
+use Rattle.eager_model.specs.Rows.{begin_op, give_and_drain, on_inv_ack, on_message, write_and_drain}
 use Rattle.eager_part.proofs.Beginnings.{each-beginning}
-use Rattle.eager_part.proofs.Kept.{asks-parts}
-use Rattle.eager_part.proofs.Lines.{IsLine, as-delayed}
+use Rattle.eager_part.proofs.Kept.{calm-own}
+use Rattle.eager_part.proofs.Lines.{IsLine, home-unlisted}
 use Rattle.eager_part.proofs.Rows.{each-row}
 
 apart-listed : (list : Nodes) (a b : ℕ) → listed list a ≡ true → listed list b ≡ false → a ≢ b
@@ -28,9 +25,6 @@ apart-listed list a b e f same = let d : true ≡ false = sym e ∙ ap (listed l
 module _ (sizes : Sizes) (several : 2 ≤ sizes.nodes) (Asked : Type 0) (me home : ℕ) (me_in : me < sizes.nodes) (room : Room) (s : LineShare) (wide : IsWideLine sizes s) (within : (q : ℕ) → listed s.header.list q ≡ true → q < sizes.nodes) (line : me ≡ home → IsLine home s) where
   abbrev Fits : Outcome → Type 0
   Fits = IsFitting sizes Asked me
-
-  own : is_invalidate s.header.wait ≡ false → me ≡ home → IsOwnLine home s
-  own calm same = as-delayed home s.header.wait s calm (line same)
 
   -- nodes that are called in, and the home isn't among them
   few : (list : Nodes) → listed list me ≡ false → ((q : ℕ) → listed list q ≡ true → q < sizes.nodes) → length (to_listed list) + 1 ≤ sizes.nodes
@@ -51,8 +45,8 @@ module _ (sizes : Sizes) (several : 2 ≤ sizes.nodes) (Asked : Type 0) (me home
   eager-begin-fits op =
       each-beginning me home room op s Fits
       (record {
-        writes = λ same idle clean store some left. home-drains-fits op (subst (λ k. listed s.header.list k ≡ false) (sym same) (own (ap is_invalidate idle) same).unlisted);
-        delayed = λ x was calm. begin-fits sizes several Asked me home me_in room s wide within (λ same. own (calm same).0 same) op x was;
+        writes = λ same idle clean store some left. home-drains-fits op (subst (λ k. listed s.header.list k ≡ false) (sym same) (home-unlisted home s.header.wait s (line same)));
+        delayed = λ x was calm. begin-fits sizes several Asked me home me_in room s wide within (λ same. calm-own me home s line (calm same).0 same) op x was;
       })
 
   module _ (sender : ℕ) (alone : Bool) where
@@ -85,10 +79,8 @@ module _ (sizes : Sizes) (several : 2 ≤ sizes.nodes) (Asked : Type 0) (me home
     eager-message-fits content w asks =
         each-row me home sender alone room s content Fits
         (record {
-          delayed = λ calm. message-fits sizes several Asked me home me_in room s wide within (λ same. own (calm same).0 same) sender alone content w asks;
-          gives = λ same apart granted.
-              let t = asks-parts (is_pending s.header) s.header.dirty (no_other sender s.header.list) room.full granted in
-              sender-drains-fits (λ e. apart (e ∙ same)) (subst (λ k. listed s.header.list k ≡ false) (sym same) (own (ap is_invalidate (idle-is s.header.wait t.0)) same).unlisted);
+          delayed = λ calm. message-fits sizes several Asked me home me_in room s wide within (λ same. calm-own me home s line (calm same).0 same) sender alone content w asks;
+          gives = λ same apart _. sender-drains-fits (λ e. apart (e ∙ same)) (subst (λ k. listed s.header.list k ≡ false) (sym same) (home-unlisted home s.header.wait s (line same)));
           acknowledges = λ _ _ _. ack-fits;
           writes_back = λ words is _ _ _. wb-fits words (subst (IsWide sizes) is w);
           refuses = λ same apart _. record { served = tt; line = wide; sends = ((tt, tt, λ _ e. apart (e ∙ same)), tt); few = one-few sizes several };

@@ -1,10 +1,9 @@
 -- What a row leaves at a node: at the home the line drains or is as in the delayed core, and what the node has begun stays, is marked, or has ended.
-use Rattle.std.proofs.Common.{◌≡◌, ◌≢◌, inl, ℕ, Bool, true, false, cond, nat_le, ◌==◌, ◌&&◌, not, refl, arith, sym, ap, subst, ◌∙◌, Result, Ok}
+use Rattle.std.proofs.Common.{◌≡◌, ◌≢◌, inl, ℕ, Bool, true, false, cond, nat_le, ◌==◌, refl, sym, ap, subst, ◌∙◌, Result, Ok}
 use Rattle.std.proofs.lemmas.Bool.{eqb-false}
 use Rattle.op_model.specs.declared.events.Cause.{Cause}
 use Rattle.op_model.specs.declared.events.EvictKind.{EvictKind}
 use Rattle.op_model.specs.declared.operations.Op.{Op}
-use Rattle.op_model.specs.Nodes.{listed}
 use Rattle.op_model.specs.Operations.{Words}
 use Rattle.op_model.specs.Messages.{Content}
 use Rattle.op_model.specs.Lines.{Absent, Copy, Exclusive, LineShare, Outcome, Room, Shared, is_pending}
@@ -14,7 +13,6 @@ use Rattle.op_model.specs.Tables.Processor.{evict, fits, hit, leave_home, leave_
 use Rattle.op_model.specs.Tables.Remote.{is_invalidate}
 use Rattle.op_model.proofs.Plain.{err-ok}
 use Rattle.line_invariant.proofs.Basics.{if-either}
-use Rattle.own_part.proofs.Basics.{idle-is}
 use Rattle.own_part.proofs.Effects.{IsEffect, IsQuiet}
 use Rattle.own_part.proofs.OwnRows.{IsBegun, begin-keeps, evict-keeps, hit-keeps, leave-home-quiet}
 use Rattle.own_part.proofs.TakeRows.{message-keeps}
@@ -22,16 +20,13 @@ use Rattle.eager_model.specs.Rows.{Drain, asks_shared, begin_op, give_and_drain,
 use Rattle.eager_part.specs.Part.{IsDrainingLine}
 use Rattle.eager_part.proofs.Beginnings.{each-beginning}
 use Rattle.eager_part.proofs.Drains.{ack-drains, hit-drains, home-drains, leave-drains, sender-drains, wb-drains}
-use Rattle.eager_part.proofs.Lines.{IsLine, as-delayed, as-draining, as-eager}
-use Rattle.eager_part.proofs.Rows.{each-row}
-
--- what a GetX that calls others is told by: the line isn't pending, and another node is listed
-pub asks-parts : (p d o f : Bool) → (not p && not d && not o && not f) ≡ true → (p ≡ false) × (o ≡ false)
-asks-parts p d o f e = (grind arith, grind arith)
+use Rattle.eager_part.proofs.Lines.{IsLine, as-delayed, as-draining, as-eager, home-unlisted}
+use Rattle.eager_part.proofs.Rows.{each-row, shared-parts}
 
 module _ (me home : ℕ) (s : LineShare) (line : me ≡ home → IsLine home s) where
-  own : is_invalidate s.header.wait ≡ false → me ≡ home → IsOwnLine home s
-  own calm same = as-delayed home s.header.wait s calm (line same)
+  -- where it doesn't drain
+  pub calm-own : is_invalidate s.header.wait ≡ false → me ≡ home → IsOwnLine home s
+  calm-own calm same = as-delayed home s.header.wait s calm (line same)
 
   abbrev pub Keeps : Outcome → Type 0
   Keeps o = (me ≡ home → IsLine home o.share) × IsEffect me home s o
@@ -48,7 +43,7 @@ module _ (me home : ℕ) (s : LineShare) (line : me ≡ home → IsLine home s) 
     where
       go : (c : Bool) → is_invalidate s.header.wait ≡ c → IsLine home (hit op s).share
       go true called = let g = as-draining home s.header.wait s called (line same) in hit-drains home g.0 s g.1 g.2 op
-      go false calm = as-eager home s.header.wait (hit op s).share calm (hit-keeps home op s (own calm same))
+      go false calm = as-eager home s.header.wait (hit op s).share calm (hit-keeps home op s (calm-own calm same))
 
   -- an eviction
   leave-wait : (copy : Copy) → (leave_home copy s).share.header.wait ≡ s.header.wait
@@ -72,7 +67,7 @@ module _ (me home : ℕ) (s : LineShare) (line : me ≡ home → IsLine home s) 
           ((λ same. absurd (eqb-false me home away same)), (evict-keeps me home kind s o far e).1)
       go true here true called = subst Leaves (at-home kind o here e) ((λ same. let g = as-draining home s.header.wait s called (line same) in leave-drains home g.0 s g.1 g.2 s.copy refl), leave-home-quiet s.copy s refl)
       go true here false calm =
-          let k = evict-keeps me home kind s o (own calm) e in
+          let k = evict-keeps me home kind s o (calm-own calm) e in
           let stays : o.share.header.wait ≡ s.header.wait = sym (ap (λ (x : Outcome). x.share.header.wait) (at-home kind o here e)) ∙ leave-wait s.copy in
           ((λ same. as-eager home o.share.header.wait o.share (ap is_invalidate stays ∙ calm) (k.0 same)), k.1)
 
@@ -81,8 +76,8 @@ module _ (me home : ℕ) (s : LineShare) (line : me ≡ home → IsLine home s) 
   begin-kept room op o =
       each-beginning me home room op s (Begins op)
       (record {
-        writes = λ same idle clean store some left. ((λ _. home-drains home op s (own (ap is_invalidate idle) same).unlisted some), inl refl);
-        delayed = λ x was calm. let k = begin-keeps me home room op s x (λ same. own (calm same).0 same) was in ((λ same. as-eager home x.share.header.wait x.share (calm same).1 (k.0 same)), k.1);
+        writes = λ same idle clean store some left. ((λ _. home-drains home op s (home-unlisted home s.header.wait s (line same)) some), inl refl);
+        delayed = λ x was calm. let k = begin-keeps me home room op s x (λ same. calm-own (calm same).0 same) was in ((λ same. as-eager home x.share.header.wait x.share (calm same).1 (k.0 same)), k.1);
       }) o
 
   -- a message
@@ -92,9 +87,8 @@ module _ (me home : ℕ) (s : LineShare) (line : me ≡ home → IsLine home s) 
 
     gives : me ≡ home → sender ≢ home → asks_shared room sender s.header ≡ true → Keeps (give_and_drain sender s)
     gives same apart asks =
-        let t = asks-parts (is_pending s.header) s.header.dirty (no_other sender s.header.list) room.full asks in
-        let idle = idle-is s.header.wait t.0 in
-        ((λ _. sender-drains home sender s apart (own (ap is_invalidate idle) same).unlisted t.1), inl (refl, refl, λ _. refl))
+        let t = shared-parts (is_pending s.header) s.header.dirty (no_other sender s.header.list) room.full asks in
+        ((λ _. sender-drains home sender s apart (home-unlisted home s.header.wait s (line same)) t.0), inl (refl, refl, λ _. refl))
 
     ack-quiet : IsQuiet s (on_inv_ack home sender s)
     unfolding on_inv_ack
@@ -109,7 +103,7 @@ module _ (me home : ℕ) (s : LineShare) (line : me ≡ home → IsLine home s) 
         each-row me home sender alone room s content Keeps
         (record {
           delayed = λ calm.
-              let k = message-keeps me home sender alone room s (λ same. own (calm same).0 same) content in
+              let k = message-keeps me home sender alone room s (λ same. calm-own (calm same).0 same) content in
               ((λ same. as-eager home _ _ (calm same).1 (k.0 same)), k.1);
           gives = gives;
           acknowledges = λ same called from. ((λ _. let g = drains called same in ack-drains home g.0 s g.1 g.2 sender from), inl ack-quiet);

@@ -1,5 +1,5 @@
 -- What the handlers of an eager node need, from the row that a message meets and from what a node keeps of its share.
-use Rattle.std.proofs.Common.{◌≡◌, ◌≢◌, ℕ, ◌<◌, Bool, true, false, not, ◌&&◌, ◌||◌, ◌==◌, List, refl, sym, ap, ◌∙◌, subst}
+use Rattle.std.proofs.Common.{◌≡◌, ◌≢◌, ℕ, ◌<◌, true, false, not, ◌||◌, ◌==◌, List, refl, sym, ap, ◌∙◌, subst}
 use Rattle.std.proofs.lemmas.Bool.{and_parts, not-true, eqb-true, eq-eqb}
 use Rattle.line_map.specs.Sizes.{Sizes, home_of}
 use Rattle.op_model.specs.declared.messages.Msg.TheVariants as msg
@@ -11,14 +11,14 @@ use Rattle.op_model.specs.Nodes.{listed}
 use Rattle.op_model.specs.Operations.{Words}
 use Rattle.op_model.specs.Lines.{Header, LineShare, is_idle, is_pending, is_outstanding}
 use Rattle.op_model.specs.OwnPart.{IsOwnLine, IsOwnWait}
-use Rattle.op_model.specs.Shares.{Share, copy_of, header_in, header_of, is_set_empty, line_share, want_on}
+use Rattle.op_model.specs.Shares.{Share, header_in, header_of, is_set_empty, line_share, want_on}
 use Rattle.op_model.specs.Tables.Home.{requester_of}
 use Rattle.op_model.specs.Tables.Remote.{asks_well, gets_elsewhere, getxs_elsewhere, is_forward, is_forward_get, is_forward_getx, is_invalidate, waits_load, waits_write}
 use Rattle.op_model.specs.Tables.Remote as delayed
 use Rattle.op_model.proofs.Plain.{three_parts}
 use Rattle.node_range.specs.Range.{IsWaitIn}
 use Rattle.own_part.proofs.Basics.{gets, getxs, idle-is}
-use Rattle.own_part.proofs.TakeRows.{at-home, at-home3}
+use Rattle.own_part.proofs.TakeRows.{at-home}
 use Rattle.message_range.specs.Fitting.{IsShareOf}
 use Rattle.eager_model.specs.Node.{meets_row}
 use Rattle.eager_model.specs.Rows.{Drain, meets}

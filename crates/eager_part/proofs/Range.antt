@@ -1,5 +1,5 @@
 -- The rows of an eager node list, await and send to nodes of the machine.
-use Rattle.std.proofs.Common.{◌≡◌, ◌≢◌, ℕ, ◌<◌, Bool, true, false, cond, nat_le, ◌==◌, ◌&&◌, not, refl, arith, Ok}
+use Rattle.std.proofs.Common.{◌≡◌, ℕ, ◌<◌, Bool, true, nat_le, ◌==◌, ◌&&◌, not, arith, Ok}
 use Rattle.std.proofs.lemmas.Bool.Decides.{nat_tests}
 use Rattle.op_model.specs.declared.operations.Op.{Op}
 use Rattle.op_model.specs.declared.state.Grantee.TheVariants.{Me, Nobody, Node}
@@ -7,7 +7,7 @@ use Rattle.op_model.specs.declared.state.Wait.{Wait}
 use Rattle.op_model.specs.declared.state.Wait.TheVariants.{Idle, Invalidate, ForwardGet, ForwardGetX}
 use Rattle.op_model.specs.Lines.{LineShare, Outcome, Room, is_idle, to_listed}
 use Rattle.op_model.specs.Messages.{Content}
-use Rattle.op_model.specs.Nodes.{Nodes, listed, listings, none, only, unlist}
+use Rattle.op_model.specs.Nodes.{Nodes, listed, listings, only, unlist}
 use Rattle.op_model.specs.Operations.{Words}
 use Rattle.op_model.specs.Tables.Home.{on_wb}
 use Rattle.line_invariant.proofs.Basics.{if-either}

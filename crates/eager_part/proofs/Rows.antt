@@ -1,34 +1,32 @@
 -- Which row a message meets and which row begins an operation, with what is known of it. A row is the delayed core's on a line that doesn't drain, and leaves it so, but for E1 to E5 and what a line that drains does with requests and writebacks.
-use Rattle.std.proofs.Common.{◌≡◌, ◌≢◌, ℕ, Bool, true, false, cond, ◌==◌, ◌&&◌, ◌||◌, not, refl, arith, sym, ap, subst, ◌∙◌, Option, Some, None, Result, Ok, Err}
-use Rattle.std.proofs.lemmas.Bool.{and_parts, not-true, not-false, eqb-true, eqb-false, eq-eqb}
-use Rattle.op_model.specs.declared.events.Cause.{Cause}
+use Rattle.std.proofs.Common.{◌≡◌, ◌≢◌, ℕ, Bool, true, false, cond, ◌==◌, ◌&&◌, ◌||◌, not, refl, arith, sym, ap, subst, ◌∙◌, Option, Some, None}
+use Rattle.std.proofs.lemmas.Bool.{and_parts, not-true, eqb-true, eqb-false}
 use Rattle.op_model.specs.declared.messages.NakCause.TheVariants.{Pending}
-use Rattle.op_model.specs.declared.operations.Op.{Op}
 use Rattle.op_model.specs.declared.state.Wait.{Wait}
 use Rattle.op_model.specs.declared.state.Wait.TheVariants.{Idle, Invalidate, ForwardGet, ForwardGetX}
 use Rattle.op_model.specs.declared.state.Want.{Want}
 use Rattle.op_model.specs.Nodes.{listed}
-use Rattle.op_model.specs.Operations.{Words, is_load}
+use Rattle.op_model.specs.Operations.{Words}
 use Rattle.op_model.specs.Messages.{Content, Get, GetX, FwdGet, FwdGetX, Inv, Wb, Rpl, Put, PutX, Nak, InvAck, ShWb, FAck, Nakc}
-use Rattle.op_model.specs.Lines.{LineShare, Outcome, Room, sending, no_message, is_exclusive, is_idle, is_outstanding, is_pending, nobody_listed}
+use Rattle.op_model.specs.Lines.{LineShare, Outcome, Room, sending, no_message, is_exclusive, is_idle, is_outstanding, is_pending}
 use Rattle.op_model.specs.Tables.Home.{lacks_link, no_other, on_fack, on_get, on_nakc, on_rpl, on_shwb, on_wb, refuse}
 use Rattle.op_model.specs.Tables.Home as delayed_home
-use Rattle.op_model.specs.Tables.Processor.{ask, begin_at_home, forward_get_home, forward_getx_home, invalidate_for_home, load_at_home, serves, write_at_home}
-use Rattle.op_model.specs.Tables.Processor as delayed_processor
 use Rattle.op_model.specs.Tables.Remote.{asks_well, gets_elsewhere, getxs_elsewhere, is_forward, is_forward_get, is_forward_getx, is_invalidate, on_fwd_get, on_fwd_getx, on_inv, on_nak, on_put, on_putx, waits_load, waits_write}
 use Rattle.op_model.specs.Tables.Remote as delayed
-use Rattle.op_model.specs.Events.Node.{map_ok}
-use Rattle.op_model.proofs.Plain.{err-ok, three_parts}
+use Rattle.op_model.proofs.Plain.{three_parts}
 use Rattle.line_invariant.proofs.Basics.{if-either}
-use Rattle.own_part.proofs.Basics.{all4, idle-is, none-between}
-use Rattle.own_part.proofs.TakeRows.{at-home, at-home3}
-use Rattle.eager_model.specs.Rows.{asks_shared, begin_op, give_and_drain, meets, on_getx, on_inv_ack, on_message, row_of, write_and_drain, writes_shared}
+use Rattle.own_part.proofs.TakeRows.{at-home}
+use Rattle.eager_model.specs.Rows.{asks_shared, give_and_drain, meets, on_getx, on_inv_ack, on_message, row_of}
 
 pub called-pends : (wait : Wait) → is_invalidate wait ≡ true → not (is_idle wait) ≡ true
 called-pends Idle e = absurd (cc)
 called-pends (Invalidate g) e = refl
 called-pends (ForwardGet r) e = absurd (cc)
 called-pends (ForwardGetX r) e = absurd (cc)
+
+-- what is told by a GetX that calls others: another node is listed, and one more line may be pending
+pub shared-parts : (p d o f : Bool) → (not p && not d && not o && not f) ≡ true → (o ≡ false) × (f ≡ false)
+shared-parts p d o f e = (grind arith, grind arith)
 
 -- a line that is called in isn't forwarded
 called-unforwarded : (home : ℕ) (wait : Wait) → is_invalidate wait ≡ true → (is_forward wait ≡ false) × (is_forward_get home wait ≡ false) × (is_forward_getx home wait ≡ false) × (gets_elsewhere home wait ≡ false) × (getxs_elsewhere home wait ≡ false)

@@ -1,5 +1,5 @@
 -- At the start a node's share is as in the delayed core, and no line drains.
-use Rattle.std.proofs.Common.{◌≡◌, ℕ, false, List, ap}
+use Rattle.std.proofs.Common.{ℕ, List, ap}
 use Rattle.line_map.specs.Sizes.{Sizes}
 use Rattle.op_model.specs.declared.operations.Op.{Op}
 use Rattle.op_model.specs.Run.Runs.{start_share}
