@@ -14,3 +14,5 @@ pub mod Sends
 pub mod Places
 pub mod Starts
 pub mod Needs
+pub mod Steps
+pub mod OwnRuns
