@@ -16,3 +16,4 @@ pub mod Starts
 pub mod Needs
 pub mod Steps
 pub mod OwnRuns
+pub mod Events
