@@ -17,3 +17,4 @@ pub mod Needs
 pub mod Steps
 pub mod OwnRuns
 pub mod Events
+pub mod RangedRuns

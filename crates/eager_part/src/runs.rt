@@ -1,8 +1,12 @@
 //! What holds after every run of the eager core, told node by node: of each share, and of each message in a lane.
 
-ghost use Rattle.std.specs.Prelude.{◌≡◌, ◌≤◌, ℕ, List, Some, length};
+ghost use Rattle.std.specs.Prelude.{◌≡◌, ◌≤◌, ◌⊎◌, ℕ, List, [], Some, length};
+ghost use Rattle.line_map.specs.Sizes.{home_of};
+ghost use Rattle.op_model.specs.declared.events.Class.{Class};
 ghost use Rattle.op_model.specs.declared.events.Event.{Event};
-ghost use Rattle.op_model.specs.Shares.{Trace, program};
+ghost use Rattle.op_model.specs.Lines.{Absent};
+ghost use Rattle.op_model.specs.Shares.{Trace, program, copy_of, header_of};
+ghost use Rattle.node_range.specs.Range.{IsOfMachine, IsHeaderIn, AreIn};
 ghost use Rattle.eager_model.specs.Runs.{Past, run};
 ghost use Rattle.eager_part.specs.Part.{IsEagerPart};
 
@@ -14,4 +18,12 @@ pub fn every_own_part()
 /// In every run each node's place is within its program.
 pub fn every_place()
     ensures within { (trace : Trace) (events : List Event) (past : Past) (node : ℕ) → run trace events ≡ Some past → (past.state.share node).place ≤ length (program trace node) }
+{}
+
+/// In every run of a trace of its machine the lanes of a node that the machine doesn't have are empty, and such a node has no copy. Each line lists nodes of the machine and waits for none but them, and each message is of a line of the machine and names a requester of it.
+pub fn every_other_lane()
+    ensures empty { (trace : Trace) (events : List Event) (past : Past) (src dst : ℕ) (class : Class) → IsOfMachine trace → run trace events ≡ Some past → (trace.sizes.nodes ≤ src) ⊎ (trace.sizes.nodes ≤ dst) → past.state.lane src dst class ≡ [] }
+    ensures absent { (trace : Trace) (events : List Event) (past : Past) (node line : ℕ) → IsOfMachine trace → run trace events ≡ Some past → trace.sizes.nodes ≤ node → copy_of (past.state.share node) line ≡ Absent }
+    ensures headers { (trace : Trace) (events : List Event) (past : Past) (line : ℕ) → IsOfMachine trace → run trace events ≡ Some past → IsHeaderIn trace.sizes.nodes (header_of trace.sizes (past.state.share (home_of trace.sizes line)) line) }
+    ensures messages { (trace : Trace) (events : List Event) (past : Past) (src dst : ℕ) (class : Class) → IsOfMachine trace → run trace events ≡ Some past → AreIn trace.sizes (past.state.lane src dst class) }
 {}
