@@ -1,6 +1,5 @@
 -- What each event makes of the whole state, by its row: at which node and line, from which lanes. A law of the state has one case for each kind of event.
-use Rattle.std.proofs.Common.{◌≡◌, ℕ, Bool, true, false, cond, ◌==◌, ◌&&◌, not, drop, slice_get, List, [], ◌∷◌, ◌++◌, refl, ap, sym, subst, ◌∙◌, Option, Some, None, Result, Ok, Err}
-use Rattle.std.proofs.lemmas.Bool.{not-true}
+use Rattle.std.proofs.Common.{◌≡◌, ℕ, Bool, true, false, cond, ◌==◌, drop, slice_get, List, [], ◌∷◌, ◌++◌, refl, ap, sym, subst, ◌∙◌, Option, Some, None, Result, Ok, Err}
 use Rattle.line_map.specs.Sizes.{Sizes, home_of, line_of}
 use Rattle.op_model.specs.declared.events.Cause.{Cause}
 use Rattle.op_model.specs.declared.events.Cause.TheVariants.{LaneEmpty, LaneGate, VictimUnasked}
@@ -16,17 +15,16 @@ use Rattle.op_model.specs.Events.Node as delayed
 use Rattle.op_model.specs.Events.Step.{Off, Programs, after, has_room, none_off, one_off, put_at}
 use Rattle.op_model.specs.Lines.{LineShare, Outcome}
 use Rattle.op_model.specs.Messages.{msg_line}
-use Rattle.op_model.specs.Shares.{Lanes, Share, State, Unlinked, conflicts, copy_of, line_share, put_share, room_of}
+use Rattle.op_model.specs.Shares.{Lanes, State, Unlinked, conflicts, copy_of, line_share, put_share, room_of}
 use Rattle.op_model.specs.Tables.Processor.{evict, hit, serves}
 use Rattle.op_model.proofs.Plain.{err-ok}
 use Rattle.lane_bounds.proofs.Acts.{after_row_of, lane-tagged, one-taken, taken_of}
 use Rattle.lane_bounds.proofs.Effects.{is_gated}
-use Rattle.line_invariant.specs.Line.{addressed}
 use Rattle.eager_model.specs.Node.{aged, local, taking}
 use Rattle.eager_model.specs.Rows.{begin_op}
 use Rattle.eager_model.specs.Step.{AgedDone, Ages, and_answer, answer, effect, first_age, front, without_ages}
 use Rattle.eager_part.proofs.EachAct.{each-act}
-use Rattle.eager_part.proofs.Steps.{IsDone, IsGiven, done-by}
+use Rattle.eager_part.proofs.Steps.{IsGiven, done-by}
 
 module _ (sizes : Sizes) (programs : Programs) (state : State) where
   abbrev at : ℕ → ℕ → LineShare

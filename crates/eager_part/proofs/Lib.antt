@@ -18,3 +18,4 @@ pub mod Steps
 pub mod OwnRuns
 pub mod Events
 pub mod RangedRuns
+pub mod LaneRuns

@@ -1,20 +1,18 @@
 -- Every run keeps to the nodes of its machine: a row is at a node of it and of a line whose home is one, since an operation is of its trace, a copy is evicted where there is one, and a message is taken where there is one.
-use Rattle.std.proofs.Common.{◌≡◌, ◌≢◌, ◌⊎◌, inl, inr, ℕ, ◌<◌, ◌≤◌, Bool, true, false, ◌==◌, slice_get, List, [], ◌∷◌, refl, arith, ap, sym, subst, ◌∙◌, Some, Ok}
+use Rattle.std.proofs.Common.{◌≡◌, ◌⊎◌, inl, inr, ℕ, ◌<◌, ◌≤◌, Bool, true, false, ◌==◌, slice_get, List, [], ◌∷◌, refl, arith, ap, sym, subst, ◌∙◌, Some, Ok}
 use Rattle.std.proofs.lemmas.Bool.{cases_lt, eqb-true, eqb-false}
-use Rattle.std.proofs.lemmas.Bool.Decides.{nat_tests}
-use Rattle.std.specs.FinMap as fin
-use Rattle.std.specs.Prelude.{None, unwrap_or}
+use Rattle.std.specs.Prelude.{unwrap_or}
 use Rattle.line_map.specs.Sizes.{Sizes, home_of, line_of}
 use Rattle.op_model.specs.declared.events.Class.{Class}
 use Rattle.op_model.specs.declared.events.Event.{Event}
 use Rattle.op_model.specs.declared.events.EvictKind.{EvictKind}
 use Rattle.op_model.specs.declared.messages.Msg.{Msg}
 use Rattle.op_model.specs.declared.operations.Op.{Op}
-use Rattle.op_model.specs.Events.Step.{after}
-use Rattle.op_model.specs.Lines.{Absent, LineShare, Outcome, Room, is_empty}
+use Rattle.op_model.specs.Events.Step.{Off}
+use Rattle.op_model.specs.Lines.{Absent, LineShare, Outcome, is_empty}
 use Rattle.op_model.specs.Messages.{msg_content, msg_line}
 use Rattle.op_model.specs.Nodes.{count, count-none, listed-none}
-use Rattle.op_model.specs.Shares.{Lanes, State, Trace, Unlinked, copy_of, first_header, header_in, header_of, is_set_empty, line_share, program, room_of}
+use Rattle.op_model.specs.Shares.{State, Trace, Unlinked, copy_of, first_header, header_in, header_of, is_set_empty, line_share, program, room_of}
 use Rattle.op_model.specs.Tables.Processor.{evict, hit}
 use Rattle.one_history.proofs.Runs.{first-copy, first-header}
 use Rattle.lane_bounds.proofs.Acts.{taken_of}
@@ -28,11 +26,12 @@ use Rattle.message_range.proofs.Events.{filled}
 use Rattle.eager_model.specs.Node.{taking}
 use Rattle.eager_model.specs.Rows.{begin_op}
 use Rattle.eager_model.specs.Runs.{Past, past_after, run, start}
-use Rattle.eager_model.specs.Step.{AgedDone, effect}
+use Rattle.eager_model.specs.Step.{AgedDone, Ages, effect}
+use Rattle.eager_part.proofs.EachAct.{each-act}
 use Rattle.eager_part.proofs.Events.{each-event, next}
 use Rattle.eager_part.proofs.OwnRuns.{AreOwn, own-event, own-start}
 use Rattle.eager_part.proofs.Range.{eager-begin-in, eager-message-in}
-use Rattle.eager_part.proofs.Steps.{keeps-run}
+use Rattle.eager_part.proofs.Steps.{IsDone, IsGiven, keeps-run}
 
 first-in : (sizes : Sizes) → IsHeaderIn sizes.nodes (first_header sizes)
 first-in sizes = record { lists = λ q is. absurd (let d : false ≡ true = sym (listed-none q) ∙ is in cc); waits = tt }
@@ -104,6 +103,17 @@ module _ (trace : Trace) (all : IsOfMachine trace) (state : State) (own : AreOwn
       ranged-row sizes state ranged dst (msg_line m) (taking sizes dst (state.share dst) src m) (taken_of src dst class rest state.lane) ends.1 here.0 (λ _. row.0) row.1
       (λ a b k far. taken-either src dst class rest state.lane (λ ms. ms ≡ []) a b k (ranged.lanes a b k far) (λ x y z. let none : state.lane src dst class ≡ [] = (λ i. state.lane (sym x i) (sym y i) (sym z i)) ∙ ranged.lanes a b k far in absurd (let d : [] ≡ m ∷ rest = sym none ∙ front in cc)))
       (λ a b k. taken-either src dst class rest state.lane (AreIn sizes) a b k (ranged.messages a b k) (λ x y z. here.2))
+
+  -- an event is done at a node of the machine
+  pub acts-in : (ages : Ages) (d : AgedDone) → IsDone sizes (program trace) state ages d → d.node < N
+  acts-in ages d done =
+      each-act sizes d.node (program trace d.node) (state.share d.node) (λ input _. (age : ℕ) (off : Off) → IsGiven sizes state ages d.node input age off → d.node < N)
+      (record {
+        hits = λ op is _ _ _ _ _. (next-in trace all d.node (state.share d.node).place (line_of sizes op.word) op (is, refl)).0;
+        begins = λ op is _ _ _ _ _ _ _. (next-in trace all d.node (state.share d.node).place (line_of sizes op.word) op (is, refl)).0;
+        evicts = λ line kind _ o row _ _ _. (copy-in d.node line (evicts-copy d.node (home_of sizes line) kind (at d.node line) o row)).0;
+        takes = λ src m _ _ given. (filled Unlinked trace all state ranged d.node src given.0 m given.1 given.2).1;
+      }) done.input d.did.out done.does done.age d.off done.given
 
 -- what each event keeps
 pub record AreRanged (trace : Trace) (state : State) : Type 0 where

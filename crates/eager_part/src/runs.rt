@@ -1,12 +1,14 @@
 //! What holds after every run of the eager core, told node by node: of each share, and of each message in a lane.
 
-ghost use Rattle.std.specs.Prelude.{◌≡◌, ◌≤◌, ◌⊎◌, ℕ, List, [], Some, length};
-ghost use Rattle.line_map.specs.Sizes.{home_of};
+ghost use Rattle.std.specs.Prelude.{◌≡◌, ◌≤◌, ◌⊎◌, ℕ, List, [], Some, length, All};
+ghost use Rattle.line_map.specs.Sizes.{AreSizes, home_of};
 ghost use Rattle.op_model.specs.declared.events.Class.{Class};
 ghost use Rattle.op_model.specs.declared.events.Event.{Event};
 ghost use Rattle.op_model.specs.Lines.{Absent};
+ghost use Rattle.op_model.specs.MessageWords.{IsMsgOf};
 ghost use Rattle.op_model.specs.Shares.{Trace, program, copy_of, header_of};
 ghost use Rattle.node_range.specs.Range.{IsOfMachine, IsHeaderIn, AreIn};
+ghost use Rattle.message_range.specs.Fitting.{IsShareOf, IsMsgForOther};
 ghost use Rattle.eager_model.specs.Runs.{Past, run};
 ghost use Rattle.eager_part.specs.Part.{IsEagerPart};
 
@@ -26,4 +28,11 @@ pub fn every_other_lane()
     ensures absent { (trace : Trace) (events : List Event) (past : Past) (node line : ℕ) → IsOfMachine trace → run trace events ≡ Some past → trace.sizes.nodes ≤ node → copy_of (past.state.share node) line ≡ Absent }
     ensures headers { (trace : Trace) (events : List Event) (past : Past) (line : ℕ) → IsOfMachine trace → run trace events ≡ Some past → IsHeaderIn trace.sizes.nodes (header_of trace.sizes (past.state.share (home_of trace.sizes line)) line) }
     ensures messages { (trace : Trace) (events : List Event) (past : Past) (src dst : ℕ) (class : Class) → IsOfMachine trace → run trace events ≡ Some past → AreIn trace.sizes (past.state.lane src dst class) }
+{}
+
+/// In every run of a trace of its machine each message in a lane is a message of the machine, and a forward asks its owner for another node. And each node's share fits the machine.
+pub fn every_lane_message()
+    ensures messages { (trace : Trace) (events : List Event) (past : Past) (src dst : ℕ) (class : Class) → IsOfMachine trace → AreSizes trace.sizes → run trace events ≡ Some past → All (IsMsgOf trace.sizes) (past.state.lane src dst class) }
+    ensures asks { (trace : Trace) (events : List Event) (past : Past) (src dst : ℕ) (class : Class) → IsOfMachine trace → AreSizes trace.sizes → run trace events ≡ Some past → All (IsMsgForOther dst) (past.state.lane src dst class) }
+    ensures shares { (trace : Trace) (events : List Event) (past : Past) (node : ℕ) → IsOfMachine trace → AreSizes trace.sizes → run trace events ≡ Some past → IsShareOf trace.sizes (past.state.share node) }
 {}
