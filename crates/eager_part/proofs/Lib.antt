@@ -19,3 +19,5 @@ pub mod OwnRuns
 pub mod Events
 pub mod RangedRuns
 pub mod LaneRuns
+pub mod HomeWays
+pub mod Ways
