@@ -1,22 +1,19 @@
 -- What a row of the delayed core sends, told from the share of its node: each message is on its way and goes to another node, and a forward asks its owner for another node. The nodes that a home calls in or forwards to are listed, and the home isn't.
-use Rattle.std.proofs.Common.{◌≡◌, ◌≢◌, ℕ, ◌<◌, Bool, true, false, cond, ◌==◌, ◌&&◌, not, List, [], ◌∷◌, refl, arith, ap, sym, ◌∙◌, subst, Option, Some, None, Result, Ok, Err}
-use Rattle.std.proofs.lemmas.Bool.{not-false, not-true, eqb-true, eqb-false, and_parts}
+use Rattle.std.proofs.Common.{◌≡◌, ◌≢◌, ℕ, ◌<◌, Bool, true, false, cond, ◌&&◌, not, List, [], ◌∷◌, refl, arith, ap, sym, ◌∙◌, subst, Result, Ok, Err}
+use Rattle.std.proofs.lemmas.Bool.{not-false}
 use Rattle.std.proofs.lemmas.Bool.Decides.{nat_tests}
 use Rattle.op_model.specs.declared.events.Cause.{Cause}
-use Rattle.op_model.specs.declared.events.EvictKind.{EvictKind}
-use Rattle.op_model.specs.declared.events.EvictKind.TheVariants as way
 use Rattle.op_model.specs.declared.operations.Op.{Op}
 use Rattle.op_model.specs.declared.state.Wait.TheVariants.{Idle}
-use Rattle.op_model.specs.declared.state.Want.{Want}
-use Rattle.op_model.specs.Lines.{Copy, Absent, Exclusive, LineShare, Outcome, Room, Shared, is_exclusive, is_idle, is_pending, no_message, nobody_listed, owner, sending, to_each, to_listed, words_of}
-use Rattle.op_model.specs.Messages.{Content, FAck, FwdGet, FwdGetX, Get, GetX, Inv, InvAck, Nak, Nakc, Put, PutX, Rpl, ShWb, Wb}
+use Rattle.op_model.specs.Lines.{LineShare, Outcome, Room, is_exclusive, is_idle, is_pending, nobody_listed, owner, to_each, to_listed}
+use Rattle.op_model.specs.Messages.{Content, FwdGet, FwdGetX}
 use Rattle.op_model.specs.Nodes.{Nodes, count, in_order, listed, listings, times, unlist}
-use Rattle.op_model.specs.Operations.{Words, is_load}
+use Rattle.op_model.specs.Operations.{is_load}
 use Rattle.op_model.specs.OwnPart.{IsOwnLine}
-use Rattle.op_model.specs.Tables.Home.{lacks_link, no_other, on_fack, on_get, on_getx, on_inv_ack, on_nakc, on_rpl, on_shwb, on_wb}
-use Rattle.op_model.specs.Tables.Processor.{ask, begin_at_home, begin_op, evict, fits, leave_home, leave_remote, serves}
-use Rattle.op_model.specs.Tables.Remote.{asks_well, is_invalidate, meets, on_fwd_get, on_fwd_getx, on_inv, on_message, on_nak, on_put, on_putx, row_of}
-use Rattle.op_model.proofs.Plain.{err-ok, other_fails, three_parts}
+use Rattle.op_model.specs.Tables.Home.{lacks_link, no_other, on_get, on_getx}
+use Rattle.op_model.specs.Tables.Processor.{begin_at_home, serves}
+use Rattle.op_model.specs.Tables.Remote.{asks_well}
+use Rattle.op_model.proofs.Plain.{err-ok, other_fails}
 use Rattle.op_model.proofs.Shares.{in_order-listed, unserved-shared}
 use Rattle.line_invariant.proofs.Basics.{if-either}
 use Rattle.lane_bounds.specs.Ways.{IsWay}

@@ -21,3 +21,4 @@ pub mod RangedRuns
 pub mod LaneRuns
 pub mod HomeWays
 pub mod Ways
+pub mod WayRuns

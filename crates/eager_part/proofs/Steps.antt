@@ -1,7 +1,8 @@
 -- What each event of a run does: one node of the state answers an input, which for a Take is the front of a lane, and changes its own share alone. What each event keeps holds after every run.
-use Rattle.std.proofs.Common.{◌≡◌, ℕ, Bool, true, false, cond, ◌==◌, drop, List, [], ◌∷◌, refl, arith, subst, Option, Some, None, Result, Ok, Err}
+use Rattle.std.proofs.Common.{◌≡◌, ℕ, Bool, true, false, cond, ◌==◌, ◌&&◌, drop, List, [], ◌∷◌, refl, arith, subst, Option, Some, None, Result, Ok, Err}
+use Rattle.std.proofs.lemmas.Bool.{eqb-true}
 use Rattle.std.proofs.lemmas.Bool.Decides.{nat_tests}
-use Rattle.std.proofs.lemmas.List.Elements.{All-append, All-drop, All-nil}
+use Rattle.std.proofs.lemmas.List.Elements.{All-append, All-cons, All-drop, All-head, All-nil, All-tail}
 use Rattle.std.specs.List.{All}
 use Rattle.line_map.specs.Sizes.{Sizes, home_of}
 use Rattle.op_model.specs.declared.events.Cause.{Cause}
@@ -13,8 +14,10 @@ use Rattle.op_model.specs.declared.events.Event.TheVariants.{Evict, Hit, Issue, 
 use Rattle.op_model.specs.declared.messages.Msg.{Msg}
 use Rattle.op_model.specs.Events.Node.{EvictLine, HitNext, Input, IssueNext, NodeOutcome, ReclaimLine, TakeFrom, map_ok}
 use Rattle.op_model.specs.Events.Step.{Off, Programs, after, and_then, has_room, none_off, one_off, to_lane}
+use Rattle.op_model.specs.Messages.{msg_class, same_class}
 use Rattle.op_model.specs.Shares.{Share, State, Trace, program}
 use Rattle.op_model.proofs.Plain.{err-ok}
+use Rattle.op_model.proofs.Shares.{same_class-is}
 use Rattle.eager_model.specs.Node.{aged, local}
 use Rattle.eager_model.specs.Runs.{Past, past_after, run, run_by, start}
 use Rattle.eager_model.specs.Step.{AgedDone, Ages, Call, and_answer, answer, effect, first_age, front, without_ages}
@@ -68,6 +71,19 @@ share-after P state d was is n = go (n == d.node) refl
     go : (c : Bool) → (n == d.node) ≡ c → P n (cond c d.did.out.share (state.share n))
     go true e = let at : d.node ≡ n = grind (arith, nat_tests) in subst (λ k. P k d.did.out.share) at is
     go false e = was n
+
+-- what holds of all that is sent holds of what is sent to a node in a lane, and that is of the lane's class
+pub sent-in : (P : ℕ → Msg → Type 0) (b : ℕ) (class : Class) (sends : List (ℕ × Msg)) → All (λ send. P send.0 send.1) sends → All (λ m. P b m × (msg_class m ≡ class)) (to_lane b class sends)
+sent-in P b class [] h = All-nil (λ m. P b m × (msg_class m ≡ class))
+sent-in P b class (send ∷ sends) h = go (send.0 == b) refl (same_class class (msg_class send.1)) refl (sent-in P b class sends (All-tail (λ s. P s.0 s.1) send sends h))
+  where
+    go : (c : Bool) → (send.0 == b) ≡ c → (d : Bool) → same_class class (msg_class send.1) ≡ d → All (λ m. P b m × (msg_class m ≡ class)) (to_lane b class sends) → All (λ m. P b m × (msg_class m ≡ class)) (cond (c && d) (send.1 ∷ to_lane b class sends) (to_lane b class sends))
+    go true e true f rest =
+        let at : send.0 ≡ b = eqb-true send.0 b e in
+        let of : class ≡ msg_class send.1 = same_class-is class (msg_class send.1) f in
+        All-cons (λ m. P b m × (msg_class m ≡ class)) send.1 (to_lane b class sends) (subst (λ k. P k send.1) at (All-head (λ s. P s.0 s.1) send sends h), cc) rest
+    go true e false f rest = rest
+    go false e d f rest = rest
 
 -- each message was in its lane, or has been sent there
 pub lane-after : (P : ℕ → ℕ → Class → Msg → Type 0) (state : State) (d : AgedDone) → ((a b : ℕ) (class : Class) → All (P a b class) (state.lane a b class)) → ((b : ℕ) (class : Class) → All (P d.node b class) (to_lane b class d.did.out.sends)) →

@@ -1,30 +1,23 @@
 -- What a row of an eager node sends is on its way and goes to another node, and a forward asks its owner for another node.
-use Rattle.std.proofs.Common.{◌≡◌, ◌≢◌, ℕ, ◌<◌, nat_le, Bool, true, false, cond, ◌==◌, ◌&&◌, not, List, [], ◌∷◌, refl, arith, ap, sym, ◌∙◌, subst, Option, Some, None, Result, Ok, Err}
-use Rattle.std.proofs.lemmas.Bool.{not-false, not-true, eqb-true, eqb-false, and_parts}
+use Rattle.std.proofs.Common.{◌≡◌, ◌≢◌, ℕ, nat_le, Bool, true, false, cond, ◌==◌, ◌&&◌, not, refl, arith, sym, ◌∙◌, subst, Option, Some, None, Result, Ok}
+use Rattle.std.proofs.lemmas.Bool.{not-true, eqb-true, eqb-false}
 use Rattle.std.proofs.lemmas.Bool.Decides.{nat_tests}
 use Rattle.op_model.specs.declared.events.Cause.{Cause}
 use Rattle.op_model.specs.declared.events.EvictKind.{EvictKind}
 use Rattle.op_model.specs.declared.events.EvictKind.TheVariants as way
 use Rattle.op_model.specs.declared.operations.Op.{Op}
-use Rattle.op_model.specs.declared.state.Wait.TheVariants.{Idle}
 use Rattle.op_model.specs.declared.state.Want.{Want}
-use Rattle.op_model.specs.Lines.{Copy, Absent, Exclusive, LineShare, Outcome, Room, Shared, is_exclusive, is_idle, is_pending, no_message, nobody_listed, owner, sending, to_each, to_listed, words_of}
+use Rattle.op_model.specs.Lines.{Copy, Absent, Exclusive, LineShare, Outcome, Room, Shared, is_exclusive, is_idle, no_message, sending}
 use Rattle.op_model.specs.Messages.{Content, FAck, FwdGet, FwdGetX, Get, GetX, Inv, InvAck, Nak, Nakc, Put, PutX, Rpl, ShWb, Wb}
-use Rattle.op_model.specs.Nodes.{Nodes, count, in_order, listed, listings, times, unlist}
+use Rattle.op_model.specs.Nodes.{listed, listings, unlist}
 use Rattle.op_model.specs.Operations.{Words, is_load}
 use Rattle.op_model.specs.OwnPart.{IsOwnLine}
-use Rattle.op_model.specs.Tables.Home.{lacks_link, no_other, on_fack, on_get, on_getx, on_inv_ack, on_nakc, on_rpl, on_shwb, on_wb}
-use Rattle.op_model.specs.Tables.Processor.{ask, begin_at_home, begin_op, evict, fits, leave_home, leave_remote, serves}
+use Rattle.op_model.specs.Tables.Home.{on_fack, on_get, on_getx, on_inv_ack, on_nakc, on_rpl, on_shwb, on_wb}
+use Rattle.op_model.specs.Tables.Processor.{ask, begin_op, evict, fits, leave_home, leave_remote, serves}
 use Rattle.op_model.specs.Tables.Remote.{asks_well, is_invalidate, meets, on_fwd_get, on_fwd_getx, on_inv, on_message, on_nak, on_put, on_putx, row_of}
-use Rattle.op_model.proofs.Plain.{err-ok, other_fails, three_parts}
-use Rattle.op_model.proofs.Shares.{in_order-listed, unserved-shared}
+use Rattle.op_model.proofs.Plain.{err-ok, three_parts}
 use Rattle.line_invariant.proofs.Basics.{if-either}
-use Rattle.lane_bounds.specs.Ways.{IsWay}
-use Rattle.own_part.proofs.Basics.{idle-is}
-use Rattle.own_part.proofs.Effects.{idle-exclusive, waits-so}
-use Rattle.own_part.proofs.OwnRows.{not-local}
 use Rattle.message_range.specs.Fitting.{IsContentForOther}
-use Rattle.message_range.proofs.Sets.{owner-listed}
 use Rattle.eager_model.specs.Rows as eager
 use Rattle.eager_part.proofs.Beginnings.{each-beginning}
 use Rattle.eager_part.proofs.HomeWays.{AreGoing, begin-home-going, from-home, get-going, getx-going, listed-going}

@@ -5,8 +5,10 @@ ghost use Rattle.line_map.specs.Sizes.{AreSizes, home_of};
 ghost use Rattle.op_model.specs.declared.events.Class.{Class};
 ghost use Rattle.op_model.specs.declared.events.Event.{Event};
 ghost use Rattle.op_model.specs.Lines.{Absent};
+ghost use Rattle.op_model.specs.Messages.{msg_class};
 ghost use Rattle.op_model.specs.MessageWords.{IsMsgOf};
 ghost use Rattle.op_model.specs.Shares.{Trace, program, copy_of, header_of};
+ghost use Rattle.lane_bounds.specs.Ways.{IsOnWay};
 ghost use Rattle.node_range.specs.Range.{IsOfMachine, IsHeaderIn, AreIn};
 ghost use Rattle.message_range.specs.Fitting.{IsShareOf, IsMsgForOther};
 ghost use Rattle.eager_model.specs.Runs.{Past, run};
@@ -30,9 +32,15 @@ pub fn every_other_lane()
     ensures messages { (trace : Trace) (events : List Event) (past : Past) (src dst : ℕ) (class : Class) → IsOfMachine trace → run trace events ≡ Some past → AreIn trace.sizes (past.state.lane src dst class) }
 {}
 
-/// In every run of a trace of its machine each message in a lane is a message of the machine, and a forward asks its owner for another node. And each node's share fits the machine.
+/// In every run of a trace of its machine each message in a lane is a message of the machine, and each node's share fits the machine. In every run a forward asks its owner for another node.
 pub fn every_lane_message()
     ensures messages { (trace : Trace) (events : List Event) (past : Past) (src dst : ℕ) (class : Class) → IsOfMachine trace → AreSizes trace.sizes → run trace events ≡ Some past → All (IsMsgOf trace.sizes) (past.state.lane src dst class) }
-    ensures asks { (trace : Trace) (events : List Event) (past : Past) (src dst : ℕ) (class : Class) → IsOfMachine trace → AreSizes trace.sizes → run trace events ≡ Some past → All (IsMsgForOther dst) (past.state.lane src dst class) }
+    ensures asks { (trace : Trace) (events : List Event) (past : Past) (src dst : ℕ) (class : Class) → run trace events ≡ Some past → All (IsMsgForOther dst) (past.state.lane src dst class) }
     ensures shares { (trace : Trace) (events : List Event) (past : Past) (node : ℕ) → IsOfMachine trace → AreSizes trace.sizes → run trace events ≡ Some past → IsShareOf trace.sizes (past.state.share node) }
+{}
+
+/// In every run each message in a lane is of the lane's class. A request, what an eviction sends and what is due to a home go to the home of their line; a forward and an invalidation come from it.
+pub fn every_message()
+    ensures class { (trace : Trace) (events : List Event) (past : Past) (a b : ℕ) (class : Class) → run trace events ≡ Some past → All (λ m. msg_class m ≡ class) (past.state.lane a b class) }
+    ensures way { (trace : Trace) (events : List Event) (past : Past) (a b : ℕ) (class : Class) → run trace events ≡ Some past → All (IsOnWay trace.sizes a b) (past.state.lane a b class) }
 {}
