@@ -22,3 +22,4 @@ pub mod LaneRuns
 pub mod HomeWays
 pub mod Ways
 pub mod WayRuns
+pub mod BoundRuns

@@ -3,11 +3,13 @@
 ghost use Rattle.std.specs.Prelude.{◌≡◌, ◌≤◌, ◌⊎◌, ℕ, List, [], Some, length, All};
 ghost use Rattle.line_map.specs.Sizes.{AreSizes, home_of};
 ghost use Rattle.op_model.specs.declared.events.Class.{Class};
+ghost use Rattle.op_model.specs.declared.events.Class.TheVariants.{Request};
 ghost use Rattle.op_model.specs.declared.events.Event.{Event};
 ghost use Rattle.op_model.specs.Lines.{Absent};
 ghost use Rattle.op_model.specs.Messages.{msg_class};
 ghost use Rattle.op_model.specs.MessageWords.{IsMsgOf};
-ghost use Rattle.op_model.specs.Shares.{Trace, program, copy_of, header_of};
+ghost use Rattle.op_model.specs.Shares.{Trace, program, copy_of, header_of, pending_lines};
+ghost use Rattle.op_model.specs.Events.Step.{departures};
 ghost use Rattle.lane_bounds.specs.Ways.{IsOnWay};
 ghost use Rattle.node_range.specs.Range.{IsOfMachine, IsHeaderIn, AreIn};
 ghost use Rattle.message_range.specs.Fitting.{IsShareOf, IsMsgForOther};
@@ -37,6 +39,17 @@ pub fn every_lane_message()
     ensures messages { (trace : Trace) (events : List Event) (past : Past) (src dst : ℕ) (class : Class) → IsOfMachine trace → AreSizes trace.sizes → run trace events ≡ Some past → All (IsMsgOf trace.sizes) (past.state.lane src dst class) }
     ensures asks { (trace : Trace) (events : List Event) (past : Past) (src dst : ℕ) (class : Class) → run trace events ≡ Some past → All (IsMsgForOther dst) (past.state.lane src dst class) }
     ensures shares { (trace : Trace) (events : List Event) (past : Past) (node : ℕ) → IsOfMachine trace → AreSizes trace.sizes → run trace events ≡ Some past → IsShareOf trace.sizes (past.state.share node) }
+{}
+
+/// In every run no home has more pending lines than it may have.
+pub fn every_home()
+    ensures pending { (trace : Trace) (events : List Event) (past : Past) (n : ℕ) → run trace events ≡ Some past → pending_lines (past.state.share n) ≤ trace.sizes.pending }
+{}
+
+/// In every run a lane of requests holds no more writebacks and hints than the gate on evictions lets through, and no node sends to itself.
+pub fn every_lane()
+    ensures departures { (trace : Trace) (events : List Event) (past : Past) (a b : ℕ) → run trace events ≡ Some past → departures (past.state.lane a b Request) ≤ trace.sizes.evicts }
+    ensures own { (trace : Trace) (events : List Event) (past : Past) (n : ℕ) (class : Class) → run trace events ≡ Some past → past.state.lane n n class ≡ [] }
 {}
 
 /// In every run each message in a lane is of the lane's class. A request, what an eviction sends and what is due to a home go to the home of their line; a forward and an invalidation come from it.
