@@ -4,8 +4,6 @@ pub mod Beginnings
 pub mod Drains
 pub mod Kept
 pub mod Allowed
-pub mod ShareRows
-pub mod BegunRows
 pub mod EachAct
 pub mod Acts
 pub mod Fits
