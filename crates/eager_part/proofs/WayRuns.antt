@@ -48,9 +48,11 @@ own-empty trace state is n class = go (state.lane n n class) (is.lanes n n class
 sent-all : (sizes : Sizes) (me line : ℕ) (sends : List (ℕ × Content)) → AreGoing (home_of sizes line) me sends → All (λ send. Goes sizes me send.0 send.1) (messages line sends)
 sent-all sizes me line [] h = All-nil (λ (send : ℕ × Msg). Goes sizes me send.0 send.1)
 sent-all sizes me line (send ∷ sends) h =
-    All-cons (λ (send : ℕ × Msg). Goes sizes me send.0 send.1) (send.0, message line send.1) (messages line sends)
-    (subst (λ l. IsWay (home_of sizes l) me send.0 (msg_content (message line send.1))) (sym (msg_line-message line send.1)) (subst (IsWay (home_of sizes line) me send.0) (sym (msg_content-message line send.1)) h.0.0),
-    subst (IsContentForOther send.0) (sym (msg_content-message line send.1)) h.0.1, h.0.2)
+    All-cons (λ (send : ℕ × Msg). Goes sizes me send.0 send.1) (send.0, message line send.1) (messages line sends) (
+      subst (λ l. IsWay (home_of sizes l) me send.0 (msg_content (message line send.1))) (sym (msg_line-message line send.1)) (subst (IsWay (home_of sizes line) me send.0) (sym (msg_content-message line send.1)) h.0.0),
+      subst (IsContentForOther send.0) (sym (msg_content-message line send.1)) h.0.1,
+      h.0.2,
+    )
     (sent-all sizes me line sends h.1)
 
 module _ (trace : Trace) (past : Past) (is : AreOnWays trace past.state) where
