@@ -72,10 +72,10 @@ fn give_and_drain<D: Sharers>(
     ensures cache { cache.new.sizes ≡ cache.old.sizes }
 {
     let body = home.memory(line);
-    home.unlist(line, src);
     let _ = home.make_pending(line, Wait::Invalidate(Grantee::Node(src)));
-    cache.drop_line(line);
+    home.unlist(line, src);
     home.set_local(line, false);
+    cache.drop_line(line);
     home.set_dirty(line, true);
     out.push(src, Msg::PutX { line, body });
     send_invs(home, line, out);
