@@ -28,11 +28,11 @@ unlisted-only home k r e f = grind (arith, nat_tests, listings)
 unlisted-none : (home : ℕ) → listed none home ≡ false
 unlisted-none home = grind (arith, nat_tests, listings)
 
-count-only : (n : ℕ) → count (only n) ≡ 1
+pub count-only : (n : ℕ) → count (only n) ≡ 1
 count-only n = grind (arith, nat_tests, listings)
 
 -- a line that is idle now and not local isn't exclusive at its home
-not-owned : (s : LineShare) → s.header.local ≡ not (is_empty s.copy) → s.header.local ≡ false → is_exclusive s.copy ≡ (true && s.header.dirty && s.header.local)
+pub not-owned : (s : LineShare) → s.header.local ≡ not (is_empty s.copy) → s.header.local ≡ false → is_exclusive s.copy ≡ (true && s.header.dirty && s.header.local)
 not-owned s local away = ap is_exclusive (away-empty s.header.local s.copy local away) ∙ sym (ap (λ l. true && s.header.dirty && l) away ∙ and-false (true && s.header.dirty))
 
 -- an invalidated line: what is left when one more acknowledgement is in

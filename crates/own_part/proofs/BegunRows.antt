@@ -17,7 +17,7 @@ use Rattle.own_part.proofs.Effects.{IsQuiet, IsMark, IsEnd, IsEffect}
 use Rattle.own_part.proofs.ShareRows.{AreOthersAway, all-empty, empty-set, next_share, own-row}
 
 -- what is begun on a line is of that line
-own-on : (sizes : Sizes) (want : Option Want) (line : ℕ) → IsOn sizes line (want_on sizes want line)
+pub own-on : (sizes : Sizes) (want : Option Want) (line : ℕ) → IsOn sizes line (want_on sizes want line)
 own-on sizes None line = tt
 own-on sizes (Some want) line = go (line_of sizes want.op.word == line) refl
   where
@@ -26,7 +26,7 @@ own-on sizes (Some want) line = go (line_of sizes want.op.word == line) refl
     go false e = tt
 
 -- an operation that a node waits for is of this line
-waited : (sizes : Sizes) (want : Option Want) (line : ℕ) → is_outstanding (want_on sizes want line) ≡ true → (w : Want) × (want ≡ Some w) × (line_of sizes w.op.word ≡ line)
+pub waited : (sizes : Sizes) (want : Option Want) (line : ℕ) → is_outstanding (want_on sizes want line) ≡ true → (w : Want) × (want ≡ Some w) × (line_of sizes w.op.word ≡ line)
 waited sizes None line e = absurd (cc)
 waited sizes (Some w) line e = go (line_of sizes w.op.word == line) refl e
   where
@@ -34,7 +34,7 @@ waited sizes (Some w) line e = go (line_of sizes w.op.word == line) refl e
     go true f h = (w, refl, eqb-true (line_of sizes w.op.word) line f)
     go false f h = absurd (cc)
 
-gone-after : (sizes : Sizes) (w : Want) (line : ℕ) (next : Option Want) → line_of sizes w.op.word ≡ line → want_after sizes (Some w) line next ≡ next
+pub gone-after : (sizes : Sizes) (w : Want) (line : ℕ) (next : Option Want) → line_of sizes w.op.word ≡ line → want_after sizes (Some w) line next ≡ next
 gone-after sizes w line next on = ap (λ c. cond c next (Some w)) (eq-eqb (line_of sizes w.op.word) line on)
 
 module _ (charge : Charge) (sizes : Sizes) (node : ℕ) (program : List Op) (share : Share) (own : IsOwnPart charge sizes node program share) (line : ℕ) (o : Outcome)

@@ -21,7 +21,7 @@ use Rattle.own_part.proofs.Basics.{above-none, away-empty, idle-is, none-between
 use Rattle.own_part.proofs.Effects.{IsQuiet, idle-exclusive, waits-so}
 
 -- a change of the copy alone, which leaves its state and an empty one empty
-done-copy : (op : Op) (copy : Copy) → (is_empty (done_on op copy) ≡ is_empty copy) × (is_exclusive (done_on op copy) ≡ is_exclusive copy)
+pub done-copy : (op : Op) (copy : Copy) → (is_empty (done_on op copy) ≡ is_empty copy) × (is_exclusive (done_on op copy) ≡ is_exclusive copy)
 done-copy op Absent = (refl, refl)
 done-copy op (Shared words) = (refl, refl)
 done-copy op (Exclusive words) = (refl, refl)
@@ -191,7 +191,7 @@ module _ (home : ℕ) (s : LineShare) (own : IsOwnLine home s) where
         waiting = subst (λ k. IsOwnWait home k (leave_home (Exclusive words) s).share) (sym (idle-here words e)) ((waits-so home Idle s (idle-here words e) own).0, λ d. absurd (cc));
       }
 
-leave-home-quiet : (copy : Copy) (s : LineShare) → s.copy ≡ copy → IsQuiet s (leave_home copy s)
+pub leave-home-quiet : (copy : Copy) (s : LineShare) → s.copy ≡ copy → IsQuiet s (leave_home copy s)
 leave-home-quiet Absent s e = (refl, refl, λ none. none)
 leave-home-quiet (Shared words) s e = (refl, refl, λ none. refl)
 leave-home-quiet (Exclusive words) s e = (refl, refl, λ none. refl)

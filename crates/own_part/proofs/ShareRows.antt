@@ -41,7 +41,7 @@ empty-set sizes share line each = ap not (any-none (λ e. (set_of sizes e.0 == s
         go true e = let same : set_of sizes q ≡ set_of sizes line = grind (arith, nat_tests) in ap not (each q same)
         go false e = refl
 
-full-copy : (copy : Copy) → is_empty copy ≡ false → copy ≡ Absent → ⊥
+pub full-copy : (copy : Copy) → is_empty copy ≡ false → copy ≡ Absent → ⊥
 full-copy copy e none = let d : true ≡ false = sym (ap is_empty none) ∙ e in cc
 
 module _ (charge : Charge) (sizes : Sizes) (node : ℕ) (program : List Op) (share : Share) (own : IsOwnPart charge sizes node program share) (line : ℕ) (o : Outcome) where

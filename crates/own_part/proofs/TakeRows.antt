@@ -15,10 +15,10 @@ use Rattle.own_part.proofs.GetRows.{get-keeps, getx-keeps}
 use Rattle.own_part.proofs.BackRows.{inv-ack-keeps, shwb-keeps, fack-keeps, nakc-keeps, wb-keeps, rpl-keeps}
 use Rattle.own_part.proofs.RemoteRows.{fwd-get-quiet, fwd-getx-quiet, inv-mark, put-ends, put-keeps, putx-ends, putx-keeps, nak-ends, nak-keeps}
 
-at-home : (here rest : Bool) → here ≡ true → (not here || rest) ≡ true → rest ≡ true
+pub at-home : (here rest : Bool) → here ≡ true → (not here || rest) ≡ true → rest ≡ true
 at-home here rest e f = grind arith
 
-at-home3 : (here a b : Bool) → here ≡ true → (not here || a || b) ≡ true → (a || b) ≡ true
+pub at-home3 : (here a b : Bool) → here ≡ true → (not here || a || b) ≡ true → (a || b) ≡ true
 at-home3 here a b e f = grind arith
 
 module _ (me home sender : ℕ) (alone : Bool) (room : Room) (s : LineShare) (own : me ≡ home → IsOwnLine home s) where

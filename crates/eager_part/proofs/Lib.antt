@@ -1,0 +1,16 @@
+pub mod Lines
+pub mod Rows
+pub mod Beginnings
+pub mod Drains
+pub mod Kept
+pub mod Allowed
+pub mod ShareRows
+pub mod BegunRows
+pub mod EachAct
+pub mod Acts
+pub mod Fits
+pub mod Range
+pub mod Sends
+pub mod Places
+pub mod Starts
+pub mod Needs
