@@ -1,2 +1,4 @@
 pub mod Acked
 pub mod Given
+pub mod Written
+pub mod Wrote

@@ -3,6 +3,8 @@
 
 mod acks;
 mod grants;
+mod writes;
 
 pub use acks::on_inv_ack;
 pub use grants::on_getx;
+pub use writes::{can_issue, issue};
