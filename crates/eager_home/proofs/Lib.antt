@@ -2,3 +2,4 @@ pub mod Acked
 pub mod Given
 pub mod Written
 pub mod Wrote
+pub mod Handled

@@ -3,6 +3,7 @@
 
 mod acks;
 mod grants;
+mod taking;
 mod writes;
 
 pub use acks::on_inv_ack;
