@@ -3,3 +3,4 @@ pub mod Given
 pub mod Written
 pub mod Wrote
 pub mod Handled
+pub mod Alone

@@ -2,6 +2,7 @@
 #![tactic(auto)]
 
 mod acks;
+mod acting;
 mod grants;
 mod taking;
 mod writes;
