@@ -3,6 +3,8 @@
 
 mod acks;
 mod acting;
+mod ages;
+mod aging;
 mod grants;
 mod taking;
 mod writes;
