@@ -4,3 +4,5 @@ pub mod Written
 pub mod Wrote
 pub mod Handled
 pub mod Alone
+pub mod Put
+pub mod AtLine

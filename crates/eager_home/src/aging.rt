@@ -13,7 +13,7 @@ ghost use Rattle.eager_model.specs.Node.{line_ages as line_of_ages};
 ghost use Rattle.eager_home.specs.Ages.{ages_of, as_ages, with_line, AreAgeLists};
 
 use crate::ages::{AgePair, NodeAges};
-use cpu_cache::{Cache, Served};
+use cpu_cache::{Cache, Effect, Served};
 use dir_header::{Header, HomeSide, Sharers};
 use msg_words::Msg;
 use node_share::{has_exclusive, has_none, is_idle};
@@ -181,4 +181,12 @@ pub(crate) fn keep<D: Sharers>(
     }
     ages.set_copy(cfg.set_of(line), after.copy);
     after.copy
+}
+
+/// What an act did: its effect, the age of the words that it gave, from which each message sent has its age, and the age of the operation that it served.
+#[derive(Clone, Copy)]
+pub struct AgedEffect {
+    pub effect: Effect,
+    pub given: u64,
+    pub served: u64,
 }

@@ -10,5 +10,6 @@ mod taking;
 mod writes;
 
 pub use acks::on_inv_ack;
+pub use aging::AgedEffect;
 pub use grants::on_getx;
 pub use writes::{can_issue, issue};
