@@ -6,3 +6,6 @@ pub mod Handled
 pub mod Alone
 pub mod Put
 pub mod AtLine
+pub mod WithAges
+pub mod EventAges
+pub mod Takes

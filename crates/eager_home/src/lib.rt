@@ -3,6 +3,7 @@
 
 mod acks;
 mod acting;
+mod aged;
 mod ages;
 mod aging;
 mod grants;
