@@ -7,10 +7,13 @@ mod aged;
 mod ages;
 mod aging;
 mod grants;
+mod node;
 mod taking;
 mod writes;
 
 pub use acks::on_inv_ack;
 pub use aging::AgedEffect;
 pub use grants::on_getx;
+pub use magic_node::LocalEvent;
+pub use node::EagerNode;
 pub use writes::{can_issue, issue};
