@@ -39,7 +39,7 @@ pub fn on_get<D: Sharers>(
     requires below { line < all_lines home.old.sizes }
     requires line { home_of home.old.sizes line ≡ home.old.node }
     requires src { src < home.old.sizes.nodes }
-    requires own { IsOwnCopy home.old.node (copy_in cache.old.copies line) (header_at home.old line) }
+    requires own { is_idle_wait (header_at home.old line).wait ≡ true → IsOwnCopy home.old.node (copy_in cache.old.copies line) (header_at home.old line) }
     requires room { HasRoom out.old 1 }
     ensures row { (proc : ProcView) → DoesRow home.old.sizes home.old.node (share_of proc cache.old.copies home.old.headers) (share_of proc cache.new.copies home.new.headers) out.old out.new line (get_row (room_in home.old) src) }
     ensures answer { (proc : ProcView) → result.0 ≡ get_answer (room_in home.old) src (line_share home.old.sizes (share_of proc cache.old.copies home.old.headers) line) }

@@ -5,7 +5,6 @@ ghost use Rattle.line_map.specs.Sizes.{home_of};
 ghost use Rattle.op_model.specs.Lines.{is_pending};
 ghost use Rattle.op_model.specs.Tables.Home.{on_wb as wb_row, on_shwb as shwb_row, on_fack as fack_row, on_nakc as nakc_row, requester_of};
 ghost use Rattle.op_model.specs.Shares.{Copies};
-ghost use Rattle.op_model.specs.Tables.Remote.{is_invalidate};
 ghost use Rattle.cpu_cache.specs.Processors.{ProcView};
 ghost use Rattle.dir_header.specs.HomeSides.{header_at};
 ghost use Rattle.node_share.specs.Parts.{share_of, row_at, AreCopies};
@@ -15,9 +14,8 @@ use line_map::Body;
 use node_share::{is_idle, requester};
 
 /// Wb: memory takes the words. Only an idle line forgets its owner here.
-pub fn on_wb<D: Sharers>(home: &mut HomeSide<D>, src: u32, line: u32, body: &Body)
+pub fn on_wb<D: Sharers>(home: &mut HomeSide<D>, line: u32, body: &Body)
     requires line { home_of home.old.sizes line ≡ home.old.node }
-    requires calm { is_invalidate (header_at home.old line).wait ≡ false }
     requires width { length body.now ≡ home.old.sizes.words }
     ensures share { (proc : ProcView) (copies : Copies) → AreCopies copies → share_of proc copies home.new.headers ≡ (row_at home.old.sizes home.old.node (share_of proc copies home.old.headers) line (wb_row body.now)).share }
     ensures kept { home.new ≡ record home.old { dir = home.new.dir; headers = home.new.headers } }
@@ -31,7 +29,7 @@ pub fn on_wb<D: Sharers>(home: &mut HomeSide<D>, src: u32, line: u32, body: &Bod
 }
 
 /// ShWb: the owner has shared its copy, and memory takes the words. The list stays.
-pub fn on_shwb<D: Sharers>(home: &mut HomeSide<D>, src: u32, line: u32, body: &Body)
+pub fn on_shwb<D: Sharers>(home: &mut HomeSide<D>, line: u32, body: &Body)
     requires line { home_of home.old.sizes line ≡ home.old.node }
     requires pending { is_pending (header_at home.old line) ≡ true }
     requires acks { (header_at home.old line).acks ≡ 0 }

@@ -56,11 +56,6 @@ getx-forward home (Invalidate g) e = cc
 getx-forward home (ForwardGet r) e = cc
 getx-forward home (ForwardGetX r) e = refl
 
-calm-is : (wait : Wait) → is_invalidate wait ≡ is_invalidate wait
-calm-is Idle = refl
-calm-is (Invalidate g) = refl
-calm-is (ForwardGet r) = refl
-calm-is (ForwardGetX r) = refl
 
 module _ {D : Type 0} (number : ℕ) (proc : ProcView) (cache : CacheView) (home : HomeView D) (is : IsMagicNode number proc cache home) (src line : ℕ) where
   abbrev share : Share
@@ -93,13 +88,13 @@ module _ {D : Type 0} (number : ℕ) (proc : ProcView) (cache : CacheView) (home
   unfolding meets_row meets
   rpl-met e = here e
 
-  pub wb-met : (words : Words) → meets_row home.sizes number share src (msg.Wb line words) ≡ true → (at ≡ number) × (is_invalidate h.wait ≡ false)
+  pub wb-met : (words : Words) → meets_row home.sizes number share src (msg.Wb line words) ≡ true → at ≡ number
   unfolding meets_row meets header_in
-  wb-met words e = let m = all4 (number == at) h.dirty (not h.local) (not (is_invalidate h.wait)) e in (here m.0, sym (calm-is h.wait) ∙ not-true (is_invalidate h.wait) m.3)
+  wb-met words e = here (all4 (number == at) h.dirty (not h.local) (not (is_invalidate h.wait)) e).0
 
   pub inv_ack-met : meets_row home.sizes number share src (msg.InvAck line) ≡ true → (at ≡ number) × (is_invalidate h.wait ≡ true) × (listed h.list src ≡ true)
   unfolding meets_row meets header_in
-  inv_ack-met e = let m = three_parts (number == at) (is_invalidate h.wait) (listed h.list src) e in (here m.0, sym (calm-is h.wait) ∙ m.1, m.2)
+  inv_ack-met e = let m = three_parts (number == at) (is_invalidate h.wait) (listed h.list src) e in (here m.0, m.1, m.2)
 
   pub shwb-met : (words : Words) → meets_row home.sizes number share src (msg.ShWb line words) ≡ true → (at ≡ number) × (is_forward h.wait ≡ true)
   unfolding meets_row meets header_in

@@ -56,7 +56,7 @@ pub(crate) fn handle<D: Sharers>(
             effect
         }
         Msg::Wb { line, body } => {
-            on_wb(home, src, line, &body);
+            on_wb(home, line, &body);
             effect
         }
         Msg::Rpl { line } => {
@@ -65,7 +65,7 @@ pub(crate) fn handle<D: Sharers>(
         }
         Msg::InvAck { line } => on_inv_ack(home, proc, cache, src, line, out),
         Msg::ShWb { line, body } => {
-            on_shwb(home, src, line, &body);
+            on_shwb(home, line, &body);
             effect
         }
         Msg::FAck { line } => {

@@ -3,7 +3,7 @@
 ghost use Rattle.std.specs.Prelude.{◌≡◌, ◌≢◌, not, ◌&&◌, ◌+◌, ◌<◌, ℕ, true, false, Some, None, Err, OnErr, IfOk, IfErr};
 ghost use Rattle.line_map.specs.Sizes.{all_lines, all_words, home_of, line_of as line_of_word};
 ghost use Rattle.op_model.specs.Nodes.{count};
-ghost use Rattle.op_model.specs.Lines.{LineShare, nobody_listed};
+ghost use Rattle.op_model.specs.Lines.{LineShare, nobody_listed, is_idle as is_idle_wait};
 ghost use Rattle.op_model.specs.Shares.{line_share, copy_in, Headers};
 ghost use Rattle.op_model.specs.OwnPart.{IsOwnLine};
 ghost use Rattle.op_model.specs.Operations.{is_load};
@@ -109,7 +109,7 @@ pub(crate) fn begin_at_home<D: Sharers>(
     requires program { IsProgramOf home.old.sizes node proc.old.program }
     requires unserved { serves op.now (copy_in cache.old.copies line) ≡ false }
     requires alone { is_set_taken cache.old line ≡ false }
-    requires own { IsOwnLine node (line_share home.old.sizes (share_of proc.old cache.old.copies home.old.headers) line) }
+    requires own { is_idle_wait (header_at home.old line).wait ≡ true → IsOwnLine node (line_share home.old.sizes (share_of proc.old cache.old.copies home.old.headers) line) }
     requires room { HasRoom out.old (home.old.sizes.nodes + 1) }
     ensures done { IfOk result (λ effect. Begins home.old.sizes node proc.old.program proc.old.place line (begin_row node (room_in home.old) op.now (line_share home.old.sizes (share_of proc.old cache.old.copies home.old.headers) line)) (share_of proc.old cache.old.copies home.old.headers) (share_of proc.new cache.new.copies home.new.headers) out.old out.new effect) }
     ensures refused { IfErr result (λ cause. begin_row node (room_in home.old) op.now (line_share home.old.sizes (share_of proc.old cache.old.copies home.old.headers) line) ≡ Err cause) }

@@ -1,6 +1,6 @@
 //! An issue.
 
-ghost use Rattle.std.specs.Prelude.{◌≡◌, ℕ, ◌+◌, ◌<◌, [], false, Some, None, Err, OnErr, IfOk, IfErr};
+ghost use Rattle.std.specs.Prelude.{◌≡◌, ℕ, ◌+◌, ◌<◌, [], true, false, Some, None, Err, OnErr, IfOk, IfErr};
 ghost use Rattle.line_map.specs.Sizes.{home_of, line_of as line_of_word};
 ghost use Rattle.op_model.specs.OwnPart.{IsOwnLine};
 ghost use Rattle.op_model.specs.Shares.{Charge, copy_in, Headers, line_share};
@@ -9,6 +9,8 @@ ghost use Rattle.op_model.specs.Tables.Processor.{serves as serves_op};
 ghost use Rattle.op_model.specs.Programs.{IsProgramOf};
 ghost use Rattle.cpu_cache.specs.Caches.{is_set_taken};
 ghost use Rattle.cpu_cache.specs.Processors.{next_of};
+ghost use Rattle.dir_header.specs.HomeSides.{header_at};
+ghost use Rattle.op_model.specs.Lines.{is_idle as is_idle_wait};
 ghost use Rattle.node_share.specs.Parts.{share_of, HasRoom};
 ghost use Rattle.node_share.specs.Effects.{Acts};
 
@@ -51,7 +53,7 @@ pub fn issue<D: Sharers>(
     requires same { cache.old.sizes ≡ home.old.sizes }
     requires node { home.old.node ≡ node }
     requires program { IsProgramOf home.old.sizes node proc.old.program }
-    requires own { (line : ℕ) → home_of home.old.sizes line ≡ node → IsOwnLine node (line_share home.old.sizes (share_of proc.old cache.old.copies home.old.headers) line) }
+    requires own { (line : ℕ) → home_of home.old.sizes line ≡ node → is_idle_wait (header_at home.old line).wait ≡ true → IsOwnLine node (line_share home.old.sizes (share_of proc.old cache.old.copies home.old.headers) line) }
     requires room { HasRoom out.old (home.old.sizes.nodes + 1) }
     ensures acts { IfOk result (λ effect. Acts node proc.old.program proc.old.place [] (local home.old.charge home.old.sizes node proc.old.program (share_of proc.old cache.old.copies home.old.headers) IssueNext) (share_of proc.new cache.new.copies home.new.headers) out.old out.new effect) }
     ensures refused { IfErr result (λ cause. local home.old.charge home.old.sizes node proc.old.program (share_of proc.old cache.old.copies home.old.headers) IssueNext ≡ Err cause) }

@@ -41,7 +41,7 @@ on_get-requires-clause-own g c =
     let home = c.args.home.now in
     let share = node_share c.args.proc.now c.args.cache.now home in
     let met = subst (λ m. meets_row home.sizes c.args.number share c.args.src m ≡ true) c.in-Get.is c.requires.met in
-    (want_on home.sizes c.args.proc.now.want c.in-Get.line, subst (λ k. IsOwnLine k (line_share home.sizes share c.in-Get.line)) (sym c.requires.node.node) (c.requires.node.own.lines c.in-Get.line (get-met c.args.number c.args.proc.now c.args.cache.now home c.requires.node c.args.src c.in-Get.line met)))
+    λ idle. (want_on home.sizes c.args.proc.now.want c.in-Get.line, subst (λ k. IsOwnLine k (line_share home.sizes share c.in-Get.line)) (sym c.requires.node.node) (c.requires.node.own.lines c.in-Get.line (get-met c.args.number c.args.proc.now c.args.cache.now home c.requires.node c.args.src c.in-Get.line met)))
 
 pub returns-in-Get-clause-row : goal.returns-in-Get-clause-row
 unfolding row_of
@@ -79,7 +79,7 @@ on_getx-requires-clause-own g c =
     let home = c.args.home.now in
     let share = node_share c.args.proc.now c.args.cache.now home in
     let met = subst (λ m. meets_row home.sizes c.args.number share c.args.src m ≡ true) c.in-GetX.is c.requires.met in
-    (want_on home.sizes c.args.proc.now.want c.in-GetX.line, subst (λ k. IsOwnLine k (line_share home.sizes share c.in-GetX.line)) (sym c.requires.node.node) (c.requires.node.own.lines c.in-GetX.line (getx-met c.args.number c.args.proc.now c.args.cache.now home c.requires.node c.args.src c.in-GetX.line met)))
+    λ idle. (want_on home.sizes c.args.proc.now.want c.in-GetX.line, subst (λ k. IsOwnLine k (line_share home.sizes share c.in-GetX.line)) (sym c.requires.node.node) (c.requires.node.own.lines c.in-GetX.line (getx-met c.args.number c.args.proc.now c.args.cache.now home c.requires.node c.args.src c.in-GetX.line met)))
 
 pub returns-in-GetX-clause-row : goal.returns-in-GetX-clause-row
 unfolding row_of
@@ -102,14 +102,7 @@ on_wb-requires-clause-line g c =
     let home = c.args.home.now in
     let share = node_share c.args.proc.now c.args.cache.now home in
     let met = subst (λ m. meets_row home.sizes c.args.number share c.args.src m ≡ true) c.in-Wb.is c.requires.met in
-    (wb-met c.args.number c.args.proc.now c.args.cache.now home c.requires.node c.args.src c.in-Wb.line c.in-Wb.body met).0 ∙ sym c.requires.node.node
-
-pub on_wb-requires-clause-calm : goal.on_wb-requires-clause-calm
-on_wb-requires-clause-calm g c =
-    let home = c.args.home.now in
-    let share = node_share c.args.proc.now c.args.cache.now home in
-    let met = subst (λ m. meets_row home.sizes c.args.number share c.args.src m ≡ true) c.in-Wb.is c.requires.met in
-    (wb-met c.args.number c.args.proc.now c.args.cache.now home c.requires.node c.args.src c.in-Wb.line c.in-Wb.body met).1
+    wb-met c.args.number c.args.proc.now c.args.cache.now home c.requires.node c.args.src c.in-Wb.line c.in-Wb.body met ∙ sym c.requires.node.node
 
 pub on_wb-requires-clause-width : goal.on_wb-requires-clause-width
 on_wb-requires-clause-width g c =

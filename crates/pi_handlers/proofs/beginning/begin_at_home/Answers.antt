@@ -62,7 +62,7 @@ owner-owner-requires-clause-listed g c =
     let can = c.in_ok-can_begin_at_home.ensures c.args.node (line_share home.sizes (share_of c.args.proc.now c.args.cache.now.copies home.headers) c.args.line) refl in
     let idle : is_idle h.wait ≡ true = allowed-idle c.args.node room op (line_share home.sizes (share_of c.args.proc.now c.args.cache.now.copies home.headers) c.args.line) can in
     let dirty : h.dirty ≡ true = ap (λ k. k.dirty) (sym c.header.ensures) ∙ c.if-header.true in
-    owner-listed c.args.node (line_share home.sizes (share_of c.args.proc.now c.args.cache.now.copies home.headers) c.args.line) op c.requires.own idle dirty c.requires.unserved
+    owner-listed c.args.node (line_share home.sizes (share_of c.args.proc.now c.args.cache.now.copies home.headers) c.args.line) op (c.requires.own idle) idle dirty c.requires.unserved
 
 pub begin-requires-clause-left : goal.begin-requires-clause-left
 begin-requires-clause-left g c = slice_get_within c.args.proc.now.program c.args.proc.now.place c.args.op.now c.requires.next
@@ -81,7 +81,7 @@ returns-then-load-clause-done g c =
     let load : is_load op.kind ≡ true = sym (load_test op.kind) ∙ sym c.eq-load.ensures ∙ c.if-load.true in
     let full : room.full ≡ false = allowed-room c.args.node room op (line_share home.sizes (share_of c.args.proc.now c.args.cache.now.copies home.headers) c.args.line) can (dirty-waits op h dirty) in
     let pending = on-ok c.make_pending.result (λ e. both_ways room.full full (c.make_pending.ensures.full.0 e)) c.make_pending.ensures.ok in
-    let acks : h.acks ≡ 0 = no-acks c.args.node (line_share home.sizes (share_of c.args.proc.now c.args.cache.now.copies home.headers) c.args.line) op c.requires.own idle in
+    let acks : h.acks ≡ 0 = no-acks c.args.node (line_share home.sizes (share_of c.args.proc.now c.args.cache.now.copies home.headers) c.args.line) op (c.requires.own idle) idle in
     subst (λ e. Does home c.args.node c.args.line op c.args.proc.now c.args.cache.now c.args.out.now c.requires.node own c.requires.free idle c.make_pending.new.self c.begin.new.self c.args.cache.now c.push.new.self e) (sym c.no_effect.ensures)
     (forwards-get home c.args.node c.args.line op c.args.proc.now c.args.cache.now c.args.out.now c.requires.node own c.requires.free idle c.begin.new.self (begun-is c.args.proc.now c.begin.new.self op c.requires.next c.begin.ensures) full c.cfg-kept.ensures.kept.held dirty acks c.push.new.self c.owner-owner.result c.owner-owner.ensures c.make_pending.new.self load pending c.push.ensures)
 
@@ -102,7 +102,7 @@ returns-then-header-clause-done g c =
     let load : is_load op.kind ≡ false = sym (load_test op.kind) ∙ sym c.eq-load.ensures ∙ c.if-load.false in
     let full : room.full ≡ false = allowed-room c.args.node room op (line_share home.sizes (share_of c.args.proc.now c.args.cache.now.copies home.headers) c.args.line) can (dirty-waits op h dirty) in
     let pending = on-ok c.make_pending-then-header.result (λ e. both_ways room.full full (c.make_pending-then-header.ensures.full.0 e)) c.make_pending-then-header.ensures.ok in
-    let acks : h.acks ≡ 0 = no-acks c.args.node (line_share home.sizes (share_of c.args.proc.now c.args.cache.now.copies home.headers) c.args.line) op c.requires.own idle in
+    let acks : h.acks ≡ 0 = no-acks c.args.node (line_share home.sizes (share_of c.args.proc.now c.args.cache.now.copies home.headers) c.args.line) op (c.requires.own idle) idle in
     subst (λ e. Does home c.args.node c.args.line op c.args.proc.now c.args.cache.now c.args.out.now c.requires.node own c.requires.free idle c.make_pending-then-header.new.self c.begin-then-header.new.self c.args.cache.now c.push-then-header.new.self e) (sym c.no_effect-then-header.ensures)
     (forwards-getx home c.args.node c.args.line op c.args.proc.now c.args.cache.now c.args.out.now c.requires.node own c.requires.free idle c.begin-then-header.new.self (begun-is c.args.proc.now c.begin-then-header.new.self op c.requires.next c.begin-then-header.ensures) full c.cfg-kept.ensures.kept.held dirty acks c.push-then-header.new.self c.owner-owner.result c.owner-owner.ensures c.make_pending-then-header.new.self load pending c.push-then-header.ensures)
 

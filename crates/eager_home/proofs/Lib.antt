@@ -1,0 +1,11 @@
+pub mod Acked
+pub mod Given
+pub mod Written
+pub mod Wrote
+pub mod Handled
+pub mod Alone
+pub mod Put
+pub mod AtLine
+pub mod WithAges
+pub mod EventAges
+pub mod Takes
