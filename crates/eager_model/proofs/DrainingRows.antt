@@ -39,22 +39,22 @@ module _ (home : ℕ) (line : AgedLine) (newest : line.words_at line.top ≡ lin
   pub drain-newest : drain_done.words_at drain_done.top ≡ drain_done.line.words
   drain-newest = at-top line.words_at drain_done.line.words drain_done.top
 
-  -- where the words of an age are the same ones: they don't change, or a node has none of the greatest age
-  same-at : (node : ℕ) → node ≢ me → IsWriteOf good.grantee good.holds me line.line.words drain_done.line.words →
-      (node ≢ home) → has_words (line.line.copy node) (line.line.want node) (good.status node) ≡ true → drain_done.words_at (good.has node) ≡ line.words_at (good.has node)
-  same-at node other (inl same) far has =
+  -- the words of an age are the same ones, or another node has none of the greatest age
+  pub same-at : (holds : Bool) (node : ℕ) → node ≢ me → IsWriteOf good.grantee good.holds me line.line.words drain_done.line.words →
+      IsAgeIn (draining_role good.grantee holds node) (good.has node) line.top → drain_done.words_at (good.has node) ≡ line.words_at (good.has node)
+  same-at holds node other (inl same) aged =
       subst (λ w. cond (nat_lt (good.has node) drain_done.top) (line.words_at (good.has node)) w ≡ line.words_at (good.has node)) (sym same)
       (words-same line.words_at line.line.words line.top drain_done.top (good.has node) drain-top newest (good.ages.within node))
-  same-at node other (inr writes) far has =
+  same-at holds node other (inr writes) aged =
       let isnt : (node == good.grantee) ≡ false = let e = writes.0 in grind (arith, nat_tests) in
-      let less : good.has node < line.top = recalled-older good.grantee node (good.has node) line.top good.holds isnt (good.ages.aged node far has) in
+      let less : good.has node < line.top = recalled-older good.grantee node (good.has node) line.top holds isnt aged in
       let under : nat_lt (good.has node) drain_done.top ≡ true = let t = drain-top in grind (arith, nat_tests) in
       rw under
 
   -- another node, whose status stays, is as good as before
   pub other-node : IsWriteOf good.grantee good.holds me line.line.words drain_done.line.words → (node : ℕ) → node ≢ home → node ≢ me →
       IsGoodNode (draining_role good.grantee good.holds node) (drain_done.words_at (good.has node)) (listed line.line.header.list node) (line.line.copy node) (line.line.want node) (good.status node)
-  other-node writes node far other = any-words _ _ _ _ (line.line.copy node) (line.line.want node) (good.status node) (good.nodes node far) (same-at node other writes far)
+  other-node writes node far other = any-words _ _ _ _ (line.line.copy node) (line.line.want node) (good.status node) (good.nodes node far) (λ e. same-at good.holds node other writes (good.ages.aged node far e))
 
 -- the header, where the words change
 header-now : (home grantee : ℕ) (holds : Bool) (words next : Words) (header : Header) (copy : Copy) (me : ℕ) → me ≢ home → IsWriteOf grantee holds me words next → IsDrainingHeader home grantee holds words header copy → IsDrainingHeader home grantee holds next header copy
@@ -87,7 +87,7 @@ IsLastWithin last has copy now (For node on) = ⊥
 -- the ages of last operations after a row at one node
 module _ (line : AgedLine) (has : ℕ → ℕ) (me : ℕ) (given age : ℕ) (copy : Copy) (held : age ≡ cond (is_empty copy) 0 (has me))
     (within : (node : ℕ) → has node ≤ line.top) (past : (node : ℕ) → line.last node ≤ line.top) where
-  last-past : (served : Service) (now : Status) → IsLastWithin (line.last me) (has me) copy now served → (node : ℕ) → last_after me served (served_age given age served) line.last node ≤ line.top
+  pub last-past : (served : Service) (now : Status) → IsLastWithin (line.last me) (has me) copy now served → (node : ℕ) → last_after me served (served_age given age served) line.last node ≤ line.top
   last-past NoService now is node = past node
   last-past (Own op on) now is node = go (node == me) (is_empty copy) held
     where
@@ -97,7 +97,7 @@ module _ (line : AgedLine) (has : ℕ → ℕ) (me : ℕ) (given age : ℕ) (cop
       go true false e = let le = within me in grind arith
   last-past (For n on) now is node = absurd is
 
-  last-under : (served : Service) (now : Status) → IsLastWithin (line.last me) (has me) copy now served → ((node : ℕ) → is_empty (line.line.copy node) ≡ false → line.last node ≤ has node) →
+  pub last-under : (served : Service) (now : Status) → IsLastWithin (line.last me) (has me) copy now served → ((node : ℕ) → is_empty (line.line.copy node) ≡ false → line.last node ≤ has node) →
       (node : ℕ) → is_empty (put_at line.line.copy me copy node) ≡ false → last_after me served (served_age given age served) line.last node ≤ has node
   last-under NoService now is under node = go (node == me) refl
     where
@@ -111,7 +111,7 @@ module _ (line : AgedLine) (has : ℕ → ℕ) (me : ℕ) (given age : ℕ) (cop
       go false e some = under node some
   last-under (For n on) now is under node = absurd is
 
-  last-put : (status : ℕ → Status) (served : Service) (now : Status) → IsLastWithin (line.last me) (has me) copy now served → ((node : ℕ) → node ≢ me → is_put (status node).carrier ≡ true → line.last node ≡ has node) → status me ≡ now →
+  pub last-put : (status : ℕ → Status) (served : Service) (now : Status) → IsLastWithin (line.last me) (has me) copy now served → ((node : ℕ) → node ≢ me → is_put (status node).carrier ≡ true → line.last node ≡ has node) → status me ≡ now →
       (node : ℕ) → is_put (status node).carrier ≡ true → last_after me served (served_age given age served) line.last node ≡ has node
   last-put status NoService now is others at_me node = go (node == me) refl
     where
