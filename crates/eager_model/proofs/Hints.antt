@@ -21,7 +21,7 @@ use Rattle.eager_model.specs.Line.{AgedLine, ages_of, aged_row, after_take, take
 use Rattle.eager_model.specs.Good.{IsEagerGood, IsDraining, has_words, draining_role}
 use Rattle.eager_model.proofs.Quiet.{quiet_row, quiet-newest, quiet-node, quiet-ages}
 
-lanes-departed : (home p : ℕ) (lane : Lanes) (status : ℕ → Status) → p ≢ home → ((a b : ℕ) (class : Class) → lane a b class ≡ expected home status a b class) →
+pub lanes-departed : (home p : ℕ) (lane : Lanes) (status : ℕ → Status) → p ≢ home → ((a b : ℕ) (class : Class) → lane a b class ≡ expected home status a b class) →
     (rest : List Content) → rest ≡ asking_part (status p).carrier →
     (a b : ℕ) (class : Class) → sent home no_message (taken p home Request rest lane) a b class ≡ expected home (put_at status p (record (status p) { leaving = NotLeaving })) a b class
 lanes-departed home p lane status apart lanes rest left a b Request = grind (arith, nat_tests, lanes a b Request)
