@@ -1,5 +1,5 @@
 -- What has to be shown of a row at the home of a line that drains, so that it still drains. The words may come back to memory there.
-use Rattle.std.proofs.Common.{◌≡◌, ◌≢◌, ℕ, Bool, true, false, cond, ◌==◌, not, List, map, refl, arith, ap, sym, subst, ◌∙◌}
+use Rattle.std.proofs.Common.{◌≡◌, ◌≢◌, ℕ, Bool, true, false, cond, ◌==◌, not, List, map, refl, arith, ap, sym, subst, ◌∙◌, inr}
 use Rattle.std.proofs.lemmas.Bool.Decides.{nat_tests}
 use Rattle.eager_model.specs.Types.{Class}
 use Rattle.op_model.specs.Nodes.{listed}
@@ -12,7 +12,7 @@ use Rattle.op_model.proofs.Plain.{eqb-self}
 use Rattle.std.proofs.lemmas.Bool.{ne_eqb}
 use Rattle.eager_model.specs.Ages.{LineAges}
 use Rattle.eager_model.specs.Line.{AgedLine}
-use Rattle.eager_model.specs.Good.{IsDraining, IsDrainingHeader, IsAgeIn, has_words, draining_role, message_age}
+use Rattle.eager_model.specs.Good.{IsEagerGood, IsDraining, IsDrainingHeader, IsAgeIn, has_words, draining_role, message_age}
 use Rattle.eager_model.proofs.Quiet.{at-top}
 use Rattle.eager_model.proofs.Kept.{any-words}
 use Rattle.eager_model.proofs.SentAges.{AreSentAges, row_done, given_age, done-ages}
@@ -55,7 +55,7 @@ module _ (home : ℕ) (line : AgedLine) (newest : line.words_at line.top ≡ lin
     seen P true e it = it
     seen P false e it = absurd (grind arith)
 
-    pub home-drains-on : IsDraining home home_done
+    home-drains-on : IsDraining home home_done
     home-drains-on =
         let on : (home == home) ≡ true = eqb-self home in
         record {
@@ -91,5 +91,5 @@ module _ (home : ℕ) (line : AgedLine) (newest : line.words_at line.top ≡ lin
         at_node node far true e = absurd (grind arith)
         at_node node far false e = seen (λ h. IsGoodNode (draining_role good.grantee holds node) (home_done.words_at (good.has node)) (listed h.list node) (line.line.copy node) (line.line.want node) (status node)) (home == home) (eqb-self home) (node-now node far)
 
-    pub home-newest : home_done.words_at home_done.top ≡ home_done.line.words
-    home-newest = at-top line.words_at home_done.line.words home_done.top
+    pub home-good : IsEagerGood home home_done
+    home-good = record { newest = at-top line.words_at home_done.line.words home_done.top; stands = inr home-drains-on }

@@ -12,7 +12,7 @@ use Rattle.op_model.proofs.Plain.{eqb-self}
 use Rattle.std.proofs.lemmas.Bool.{ne_eqb}
 use Rattle.eager_model.specs.Ages.{LineAges, served_age}
 use Rattle.eager_model.specs.Line.{AgedLine, last_after}
-use Rattle.eager_model.specs.Good.{IsDraining, IsDrainingHeader, IsHomeCopy, IsAgeIn, has_words, draining_role, message_age}
+use Rattle.eager_model.specs.Good.{IsEagerGood, IsDraining, IsDrainingHeader, IsHomeCopy, IsAgeIn, has_words, draining_role, message_age}
 use Rattle.eager_model.proofs.Quiet.{words-same, at-top}
 use Rattle.eager_model.proofs.Kept.{any-words}
 use Rattle.eager_model.proofs.SentAges.{AreSentAges, row_done, given_age, done-top, done-ages}
@@ -184,7 +184,7 @@ module _ (home : ℕ) (line : AgedLine) (newest : line.words_at line.top ≡ lin
     home-copy : away_done.line.copy home ≡ line.line.copy home
     home-copy = rw (ne_eqb home p (λ e. apart (sym e)))
 
-    pub away-drains : IsDraining home away_done
+    away-drains : IsDraining home away_done
     away-drains =
         let off : (home == p) ≡ false = ne_eqb home p (λ e. apart (sym e)) in
         record {
@@ -215,5 +215,5 @@ module _ (home : ℕ) (line : AgedLine) (newest : line.words_at line.top ≡ lin
             go false e is_top = is_top
             go true e is_top = absurd (grind arith)
 
-    pub away-newest : away_done.words_at away_done.top ≡ away_done.line.words
-    away-newest = at-top line.words_at away_done.line.words away_done.top
+    pub away-good : IsEagerGood home away_done
+    away-good = record { newest = at-top line.words_at away_done.line.words away_done.top; stands = inr away-drains }

@@ -1,5 +1,5 @@
 -- A message that the home of a draining line takes, where its row leaves the home's copy and its list, and changes what is under way at the sender alone.
-use Rattle.std.proofs.Common.{◌≡◌, ◌≢◌, ℕ, Bool, true, false, cond, ◌==◌, List, ◌∷◌, refl, arith, ap, sym, subst, ◌∙◌, inl, inr, Option}
+use Rattle.std.proofs.Common.{◌≡◌, ◌≢◌, ℕ, Bool, true, false, cond, ◌==◌, List, ◌∷◌, refl, arith, ap, sym, subst, ◌∙◌, inl, Option}
 use Rattle.std.proofs.lemmas.Bool.Decides.{nat_tests}
 use Rattle.eager_model.specs.Types.{Class, Want}
 use Rattle.op_model.specs.Nodes.{listed}
@@ -16,7 +16,7 @@ use Rattle.eager_model.specs.Line.{AgedLine, taken_age, aged_row}
 use Rattle.eager_model.specs.Good.{IsEagerGood, IsDraining, IsDrainingHeader, IsAgeIn, has_words, draining_role}
 use Rattle.eager_model.proofs.SentAges.{AreSentAges, row_done, given_age, taken-ages}
 use Rattle.eager_model.proofs.DrainingRows.{at-each}
-use Rattle.eager_model.proofs.DrainingHome.{IsRowHome, home-drains-on, home-newest}
+use Rattle.eager_model.proofs.DrainingHome.{IsRowHome, home-good}
 
 -- a copy that stays keeps its age
 pub kept-copy : (b : Bool) (age has : ℕ) → age ≡ cond b 0 has → cond b 0 age ≡ cond b 0 has
@@ -49,7 +49,7 @@ module _ (home : ℕ) (line : AgedLine) (newest : line.words_at line.top ≡ lin
     pub of_memory : header.dirty ≡ false → memory ≡ line.top
 
   pub taken-home : IsTakenHome → IsEagerGood home taken_done
-  taken-home is = record { newest = home-newest home line newest good taken_row taken_ages _ _ (put_at good.status p now) holds row; stands = inr (home-drains-on home line newest good taken_row taken_ages _ _ (put_at good.status p now) holds row) }
+  taken-home is = home-good home line newest good taken_row taken_ages _ _ (put_at good.status p now) holds row
     where
       node-now : (node : ℕ) → node ≢ home → (b : Bool) → (node == p) ≡ b →
           IsGoodNode (draining_role good.grantee holds node) (line.words_at (good.has node)) (listed line.line.header.list node) (line.line.copy node) (line.line.want node) (cond b now (good.status node))
