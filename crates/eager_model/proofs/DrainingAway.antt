@@ -1,5 +1,5 @@
 -- While a line drains, each message that a node other than the home takes keeps it good: an Inv, N7, and the answers to what it has begun, N8, N9, N11 and N13.
-use Rattle.std.proofs.Common.{◌≡◌, ◌≢◌, ℕ, Bool, true, false, cond, nat_lt, ◌==◌, List, ◌∷◌, refl, arith, ap, sym, ◌∙◌, inl, inr, Option, None, subst}
+use Rattle.std.proofs.Common.{◌≡◌, ◌≢◌, ℕ, Bool, true, false, cond, nat_lt, ◌==◌, List, [], ◌∷◌, refl, arith, ap, sym, ◌∙◌, inl, inr, Option, None, subst}
 use Rattle.std.proofs.lemmas.Bool.Decides.{nat_tests}
 use Rattle.eager_model.specs.Types.{Op, Request, Reply, Want}
 use Rattle.line_invariant.specs.Types.{NakCause}
@@ -17,6 +17,7 @@ use Rattle.line_invariant.proofs.RemoteNodes.{node-inv, node-put, node-nak}
 use Rattle.line_invariant.proofs.RemoteRows.{answered}
 use Rattle.line_invariant.proofs.LocalNodes.{node-putx}
 use Rattle.line_invariant.proofs.Marks.{keep, done}
+use Rattle.eager_model.specs.Rows.{on_message}
 use Rattle.eager_model.specs.Ages.{LineAges, with_copy}
 use Rattle.eager_model.specs.Line.{AgedLine, ages_of, after_take, taken_age}
 use Rattle.eager_model.specs.Good.{IsEagerGood, IsDraining, has_words, draining_role}
@@ -24,6 +25,7 @@ use Rattle.eager_model.proofs.Quiet.{words-same}
 use Rattle.eager_model.proofs.SentAges.{none-sent, one-sent, taken-ages}
 use Rattle.eager_model.proofs.DrainingRows.{IsRowAway, away-good}
 use Rattle.eager_model.proofs.DrainingFronts.{told, answers}
+use Rattle.eager_model.proofs.DrainingAtHome.{holder-is}
 use Rattle.eager_model.proofs.DrainingMeets.{by-row, meets-inv, does-inv, meets-nak, does-nak, meets-put, does-put, meets-putx, does-putx}
 
 -- a copy that may go keeps its age where it stays
@@ -123,3 +125,53 @@ module _ (home : ℕ) (line : AgedLine) (newest : line.words_at line.top ≡ lin
         answered = λ node. done line.line.answered good.status good.answered p _ refl node;
         last = (λ some. let same = good.ages.of_put p (ap is_put comes.0) in grind arith, λ put. absurd (grind arith));
       }))
+
+  -- the grantee is given the line, and writes on its newest words
+  module _ (words : Words) (front : line.line.lane from p Reply ≡ PutX words ∷ rest) (first : line.lane_age from p Reply ≡ age ∷ ages) where
+    comes : ((good.status p).carrier ≡ Answered from (PutX words)) × (rest ≡ [])
+    comes = answers home line good from (PutX words) rest p apart front
+
+    wants : (op : Op) × (marked : Bool) × (line.line.want p ≡ wanting op marked) × (is_load op.kind ≡ false) × (line.line.copy p ≡ Absent)
+    wants = wanted (PutX words) comes.0
+
+    writes_on : (holds_in (draining_role good.grantee good.holds p) ≡ true) × (words ≡ line.words_at (good.has p)) × IsGoodNode (draining_role good.grantee good.holds p) (after_op wants.0 (line.words_at (good.has p))) (listed line.line.header.list p) (Exclusive (after_op wants.0 words)) None (record (good.status p) { carrier = Resting })
+    writes_on = node-putx _ (line.words_at (good.has p)) _ (line.line.copy p) (line.line.want p) (good.status p) wants.0 wants.1 from words (good.nodes p apart) wants.2 comes.0
+
+    holder : ((p == good.grantee) ≡ true) × (good.holds ≡ true)
+    holder = holder-is good.grantee p good.holds writes_on.0
+
+    newest-held : good.has p ≡ line.top
+    newest-held = rw (holder.0, holder.1) at (good.ages.aged p apart (putx-has (line.line.copy p) (line.line.want p) (good.status p) from words comes.0))
+
+    held-words : line.words_at (good.has p) ≡ line.line.words
+    held-words = ap line.words_at newest-held ∙ newest
+
+    abbrev row : Outcome
+    row = record { share = record (share_of line.line p) { copy = Exclusive (after_op wants.0 words); want = None }; sends = no_message; served = Own wants.0 words; done = true }
+
+    is-row : on_message p home from (is_empty (line.line.copy p)) room (PutX words) (share_of line.line p) ≡ row
+    is-row = does-putx p home apart from (share_of line.line p) wants.0 wants.1 wants.2 words room wants.3 wants.4
+
+    pub good-putx : IsEagerGood home (after_take home from p Reply (PutX words) rest age ages room line)
+    good-putx =
+        let taken_ages = taken-ages line _ good.ages.lanes from p Reply (PutX words) rest age ages front first in
+        let next : LineAges = record (ages_of line p) { copy = age } in
+        by-row home from p Reply (PutX words) rest age ages room line row next
+        (meets-putx p home apart from (share_of line.line p) wants.0 wants.1 wants.2 words wants.3 wants.4) is-row refl
+        (away-good home line newest good p apart row (with_copy row.share.copy next) (taken from p Reply rest line.line.lane) (taken_age from p Reply ages line.lane_age) (record (good.status p) { carrier = Resting })
+        (record {
+          lanes = lanes-answer home p line.line.lane good.status apart good.lanes from (PutX words) rest comes.1 comes.0;
+          lane_ages = taken_ages.1;
+          copy = taken_ages.0;
+          sends = none-sent (line.copy_age p) line.top good.has p;
+          writes = inr holder;
+          node = node-now;
+          had = λ e. putx-has (line.line.copy p) (line.line.want p) (good.status p) from words comes.0;
+          answered = λ node. done line.line.answered good.status good.answered p _ refl node;
+          last = refl;
+        }))
+      where
+        node-now : IsGoodNode (draining_role good.grantee good.holds p) (cond (nat_lt (good.has p) line.top) (line.words_at (good.has p)) (after_op wants.0 line.line.words)) (listed line.line.header.list p) (Exclusive (after_op wants.0 words)) None (record (good.status p) { carrier = Resting })
+        node-now =
+            let over : nat_lt (good.has p) line.top ≡ false = let e = newest-held in grind (arith, nat_tests) in
+            rw over (rw held-words at writes_on.2)
