@@ -52,6 +52,38 @@ node-departed : (words : Words) (lists : Bool) (copy : Copy) (want : Option Want
     IsGoodNode (Bare Usual NoDuty) words lists copy want (record status { leaving = NotLeaving })
 node-departed words lists copy want status has good leaves = grind arith
 
+-- who writes back holds the line
+module _ (home : ℕ) (line : AgedLine) (newest : line.words_at line.top ≡ line.line.words) (good : IsDraining home line) (p : ℕ) (rest : List Content) (words : Words) (front : line.line.lane p home Request ≡ Wb words ∷ rest) where
+  back-apart : p ≢ home
+  back-apart = asks-apart home line good p (Wb words) rest front
+
+  comes : ((good.status p).leaving ≡ WritesBack words) × (rest ≡ asking_part (good.status p).carrier)
+  comes = wb-first _ _ words rest (asks home line good p (Wb words) rest front)
+
+  wrote : (holds_in (draining_role good.grantee good.holds p) ≡ true) × (words ≡ line.words_at (good.has p))
+  wrote = node-wrote-back (line.words_at (good.has p)) _ (line.line.copy p) (line.line.want p) (good.status p) _ words (good.nodes p back-apart) comes.0
+
+  pub holder : ((p == good.grantee) ≡ true) × (good.holds ≡ true)
+  holder = holder-is good.grantee p good.holds wrote.0
+
+  away : (good.grantee == home) ≡ false
+  away = let e = holder.0 in grind (arith, nat_tests)
+
+  newest-held : good.has p ≡ line.top
+  newest-held = rw (holder.0, holder.1) at (good.ages.aged p back-apart (back-has (line.line.copy p) (line.line.want p) (good.status p) words comes.0))
+
+  none-home : line.line.copy home ≡ Absent
+  none-home = rw (holder.1, away) at good.header.own
+
+  is_dirty : line.line.header.dirty ≡ true
+  is_dirty = good.header.dirty ∙ holder.1
+
+  not_local : line.line.header.local ≡ false
+  not_local = good.local ∙ rw none-home
+
+  pub back-meets : meets home home p (is_empty (line.line.copy home)) (Wb words) (share_of line.line home) ≡ true
+  back-meets = meets-wb home p (share_of line.line home) words is_dirty not_local
+
 module _ (home : ℕ) (line : AgedLine) (newest : line.words_at line.top ≡ line.line.words) (good : IsDraining home line) (p : ℕ) (rest : List Content) (age : ℕ) (ages : List ℕ) (room : Room) where
   abbrev Keeps : Content → Type 0
   Keeps content = IsEagerGood home (after_take home p home Request content rest age ages room line)
@@ -91,37 +123,19 @@ module _ (home : ℕ) (line : AgedLine) (newest : line.words_at line.top ≡ lin
 
   module _ (words : Words) (front : line.line.lane p home Request ≡ Wb words ∷ rest) (first : line.lane_age p home Request ≡ age ∷ ages) where
     apart : p ≢ home
-    apart = asks-apart home line good p (Wb words) rest front
+    apart = back-apart home line newest good p rest words front
 
-    comes : ((good.status p).leaving ≡ WritesBack words) × (rest ≡ asking_part (good.status p).carrier)
-    comes = wb-first _ _ words rest (asks home line good p (Wb words) rest front)
+    leaves : ((good.status p).leaving ≡ WritesBack words) × (rest ≡ asking_part (good.status p).carrier)
+    leaves = comes home line newest good p rest words front
 
-    wrote : (holds_in (draining_role good.grantee good.holds p) ≡ true) × (words ≡ line.words_at (good.has p))
-    wrote = node-wrote-back (line.words_at (good.has p)) _ (line.line.copy p) (line.line.want p) (good.status p) _ words (good.nodes p apart) comes.0
+    held : ((p == good.grantee) ≡ true) × (good.holds ≡ true)
+    held = holder home line newest good p rest words front
 
-    pub holder : ((p == good.grantee) ≡ true) × (good.holds ≡ true)
-    holder = holder-is good.grantee p good.holds wrote.0
-
-    away : (good.grantee == home) ≡ false
-    away = let e = holder.0 in grind (arith, nat_tests)
-
-    newest-held : good.has p ≡ line.top
-    newest-held = rw (holder.0, holder.1) at (good.ages.aged p apart (back-has (line.line.copy p) (line.line.want p) (good.status p) words comes.0))
-
-    none-home : line.line.copy home ≡ Absent
-    none-home = rw (holder.1, away) at good.header.own
-
-    is_dirty : line.line.header.dirty ≡ true
-    is_dirty = good.header.dirty ∙ holder.1
-
-    not_local : line.line.header.local ≡ false
-    not_local = good.local ∙ rw none-home
-
-    pub back-meets : meets home home p (is_empty (line.line.copy home)) (Wb words) (share_of line.line home) ≡ true
-    back-meets = meets-wb home p (share_of line.line home) words is_dirty not_local
+    held-age : good.has p ≡ line.top
+    held-age = newest-held home line newest good p rest words front
 
     age-top : age ≡ line.top
-    age-top = (taken-ages line _ good.ages.lanes p home Request (Wb words) rest age ages front first).0 ∙ newest-held
+    age-top = (taken-ages line _ good.ages.lanes p home Request (Wb words) rest age ages front first).0 ∙ held-age
 
     abbrev header : Header
     header = record line.line.header { memory = words; dirty = false; list = cond (is_idle line.line.header.wait) none line.line.header.list }
@@ -130,32 +144,32 @@ module _ (home : ℕ) (line : AgedLine) (newest : line.words_at line.top ≡ lin
     same-list = ap (λ w. cond (is_idle w) none line.line.header.list) good.header.waits
 
     left : IsGoodNode (Bare Usual NoDuty) (line.words_at (good.has p)) (listed line.line.header.list p) (line.line.copy p) (line.line.want p) (record (good.status p) { leaving = NotLeaving })
-    left = node-departed (line.words_at (good.has p)) _ (line.line.copy p) (line.line.want p) (good.status p) words (rw (holder.0, holder.1) at (good.nodes p apart)) comes.0
+    left = node-departed (line.words_at (good.has p)) _ (line.line.copy p) (line.line.want p) (good.status p) words (rw (held.0, held.1) at (good.nodes p apart)) leaves.0
 
     came-back : IsTakenHome home line newest good p apart Request (Wb words) rest age ages front first header no_message age (record (good.status p) { leaving = NotLeaving }) false
     came-back =
         record {
-          lanes = lanes-departed home p line.line.lane good.status apart good.lanes rest comes.1;
+          lanes = lanes-departed home p line.line.lane good.status apart good.lanes rest leaves.1;
           sent = none-sent (given_age home line home) line.top good.has home;
           same_role = λ node other. same-role node other;
           of_header = record {
-            waits = good.header.waits; dirty = refl; memory = wrote.1 ∙ ap line.words_at newest-held ∙ newest; some = good.header.some;
-            due = good.header.due ∙ ap count (sym same-list); granted = ap (λ l. listed l good.grantee) same-list ∙ good.header.granted; own = none-home;
+            waits = good.header.waits; dirty = refl; memory = (wrote home line newest good p rest words front).1 ∙ ap line.words_at held-age ∙ newest; some = good.header.some;
+            due = good.header.due ∙ ap count (sym same-list); granted = ap (λ l. listed l good.grantee) same-list ∙ good.header.granted; own = none-home home line newest good p rest words front;
           };
           list = same-list;
           local = refl;
-          node = rw holder.0 left;
+          node = rw held.0 left;
           had = λ e. absurd (let no = bare-has-none (line.words_at (good.has p)) _ (line.line.copy p) (line.line.want p) (record (good.status p) { leaving = NotLeaving }) Usual NoDuty left in grind arith);
           put = refl;
           of_memory = λ clean. age-top;
         }
       where
         same-role : (node : ℕ) → node ≢ p → draining_role good.grantee false node ≡ draining_role good.grantee good.holds node
-        same-role node other = let isnt : (node == good.grantee) ≡ false = let e = holder.0 in grind (arith, nat_tests) in rw isnt
+        same-role node other = let isnt : (node == good.grantee) ≡ false = let e = held.0 in grind (arith, nat_tests) in rw isnt
 
     pub good-back : Keeps (Wb words)
     unfolding on_wb
     good-back =
         by-row home p home Request (Wb words) rest age ages room line (on_wb words (share_of line.line home)) (record (ages_of line home) { memory = age })
-        back-meets (does-wb home p (share_of line.line home) words is_dirty not_local room) refl
+        (back-meets home line newest good p rest words front) (does-wb home p (share_of line.line home) words (is_dirty home line newest good p rest words front) (not_local home line newest good p rest words front) room) refl
         (taken-home home line newest good p apart Request (Wb words) rest age ages front first header no_message age _ false came-back)

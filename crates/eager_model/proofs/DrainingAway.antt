@@ -17,7 +17,7 @@ use Rattle.line_invariant.proofs.RemoteNodes.{node-inv, node-put, node-nak}
 use Rattle.line_invariant.proofs.RemoteRows.{answered}
 use Rattle.line_invariant.proofs.LocalNodes.{node-putx}
 use Rattle.line_invariant.proofs.Marks.{keep, done}
-use Rattle.eager_model.specs.Rows.{on_message}
+use Rattle.eager_model.specs.Rows.{meets, on_message}
 use Rattle.eager_model.specs.Ages.{LineAges, with_copy}
 use Rattle.eager_model.specs.Line.{AgedLine, ages_of, after_take, taken_age}
 use Rattle.eager_model.specs.Good.{IsEagerGood, IsDraining, has_words, draining_role}
@@ -152,14 +152,19 @@ module _ (home : ℕ) (line : AgedLine) (newest : line.words_at line.top ≡ lin
     is-row : on_message p home from (is_empty (line.line.copy p)) room (PutX words) (share_of line.line p) ≡ row
     is-row = does-putx p home apart from (share_of line.line p) wants.0 wants.1 wants.2 words room wants.3 wants.4
 
-    pub good-putx : IsEagerGood home (after_take home from p Reply (PutX words) rest age ages room line)
-    good-putx =
+    abbrev next : LineAges
+    next = record (ages_of line p) { copy = age }
+
+    pub given-age : age ≡ line.top
+    given-age = (taken-ages line _ good.ages.lanes from p Reply (PutX words) rest age ages front first).0 ∙ newest-held
+
+    putx-met : meets p home from (is_empty (line.line.copy p)) (PutX words) (share_of line.line p) ≡ true
+    putx-met = meets-putx p home apart from (share_of line.line p) wants.0 wants.1 wants.2 words wants.3 wants.4
+
+    putx-row : IsRowAway home line newest good p apart row (with_copy row.share.copy next) (taken from p Reply rest line.line.lane) (taken_age from p Reply ages line.lane_age) (record (good.status p) { carrier = Resting })
+    putx-row =
         let taken_ages = taken-ages line _ good.ages.lanes from p Reply (PutX words) rest age ages front first in
-        let next : LineAges = record (ages_of line p) { copy = age } in
-        by-row home from p Reply (PutX words) rest age ages room line row next
-        (meets-putx p home apart from (share_of line.line p) wants.0 wants.1 wants.2 words wants.3 wants.4) is-row refl
-        (away-good home line newest good p apart row (with_copy row.share.copy next) (taken from p Reply rest line.line.lane) (taken_age from p Reply ages line.lane_age) (record (good.status p) { carrier = Resting })
-        (record {
+        record {
           lanes = lanes-answer home p line.line.lane good.status apart good.lanes from (PutX words) rest comes.1 comes.0;
           lane_ages = taken_ages.1;
           copy = taken_ages.0;
@@ -169,9 +174,14 @@ module _ (home : ℕ) (line : AgedLine) (newest : line.words_at line.top ≡ lin
           had = λ e. putx-has (line.line.copy p) (line.line.want p) (good.status p) from words comes.0;
           answered = λ node. done line.line.answered good.status good.answered p _ refl node;
           last = refl;
-        }))
+        }
       where
         node-now : IsGoodNode (draining_role good.grantee good.holds p) (cond (nat_lt (good.has p) line.top) (line.words_at (good.has p)) (after_op wants.0 line.line.words)) (listed line.line.header.list p) (Exclusive (after_op wants.0 words)) None (record (good.status p) { carrier = Resting })
         node-now =
             let over : nat_lt (good.has p) line.top ≡ false = let e = newest-held in grind (arith, nat_tests) in
             rw over (rw held-words at writes_on.2)
+
+    pub good-putx : IsEagerGood home (after_take home from p Reply (PutX words) rest age ages room line)
+    good-putx =
+        by-row home from p Reply (PutX words) rest age ages room line row next putx-met is-row refl
+        (away-good home line newest good p apart row (with_copy row.share.copy next) (taken from p Reply rest line.line.lane) (taken_age from p Reply ages line.lane_age) (record (good.status p) { carrier = Resting }) putx-row)

@@ -149,7 +149,7 @@ module _ (home : ℕ) (line : AgedLine) (newest : line.words_at line.top ≡ lin
     sends : AreSentAges (given_age home line p) line.top good.has p row.sends
     sends = subst (λ g. AreSentAges g line.top good.has p row.sends) (sym away-given) is.sends
 
-    away-top : away_done.top ≡ line.top
+    pub away-top : away_done.top ≡ line.top
     away-top = drain-top home line newest good p row ages lane lane_age is.copy sends
 
     words-now : (age : ℕ) → away_done.words_at age ≡ cond (nat_lt age line.top) (line.words_at age) (words_after row.served line.line.words)

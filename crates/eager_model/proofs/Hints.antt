@@ -33,11 +33,11 @@ node-hinted role words lists copy want status good leaves = grind arith
 has-hinted : (copy : Copy) (want : Option Want) (status : Status) → has_words copy want (record status { leaving = NotLeaving }) ≡ true → has_words copy want status ≡ true
 has-hinted copy want status e = grind arith
 
-meets-rpl : (home from : ℕ) (share : LineShare) → meets home home from (is_empty share.copy) Rpl share ≡ true
+pub meets-rpl : (home from : ℕ) (share : LineShare) → meets home home from (is_empty share.copy) Rpl share ≡ true
 unfolding meets delayed.meets
 meets-rpl home from share = eqb-self home
 
-does-rpl : (home from : ℕ) (room : Room) (share : LineShare) (grantee : ℕ) → share.header.wait ≡ Drain grantee → on_message home home from (is_empty share.copy) room Rpl share ≡ sending share no_message
+pub does-rpl : (home from : ℕ) (room : Room) (share : LineShare) (grantee : ℕ) → share.header.wait ≡ Drain grantee → on_message home home from (is_empty share.copy) room Rpl share ≡ sending share no_message
 unfolding on_message row_of delayed.row_of on_rpl
 does-rpl home from room share grantee waits = simp (meets-rpl home from share, waits)
 
