@@ -75,10 +75,10 @@ module _ (home : ℕ) (line : AgedLine) (newest : line.words_at line.top ≡ lin
   none-home : line.line.copy home ≡ Absent
   none-home = rw (holder.1, away) at good.header.own
 
-  is_dirty : line.line.header.dirty ≡ true
+  pub is_dirty : line.line.header.dirty ≡ true
   is_dirty = good.header.dirty ∙ holder.1
 
-  not_local : line.line.header.local ≡ false
+  pub not_local : line.line.header.local ≡ false
   not_local = good.local ∙ rw none-home
 
   pub back-meets : meets home home p (is_empty (line.line.copy home)) (Wb words) (share_of line.line home) ≡ true
@@ -153,8 +153,13 @@ module _ (home : ℕ) (line : AgedLine) (newest : line.words_at line.top ≡ lin
           sent = none-sent (given_age home line home) line.top good.has home;
           same_role = λ node other. same-role node other;
           of_header = record {
-            waits = good.header.waits; dirty = refl; memory = (wrote home line newest good p rest words front).1 ∙ ap line.words_at held-age ∙ newest; some = good.header.some;
-            due = good.header.due ∙ ap count (sym same-list); granted = ap (λ l. listed l good.grantee) same-list ∙ good.header.granted; own = none-home home line newest good p rest words front;
+            waits = good.header.waits;
+            dirty = refl;
+            memory = (wrote home line newest good p rest words front).1 ∙ ap line.words_at held-age ∙ newest;
+            some = good.header.some;
+            due = good.header.due ∙ ap count (sym same-list);
+            granted = ap (λ l. listed l good.grantee) same-list ∙ good.header.granted;
+            own = none-home home line newest good p rest words front;
           };
           list = same-list;
           local = refl;

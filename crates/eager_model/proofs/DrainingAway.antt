@@ -131,7 +131,7 @@ module _ (home : ℕ) (line : AgedLine) (newest : line.words_at line.top ≡ lin
     comes : ((good.status p).carrier ≡ Answered from (PutX words)) × (rest ≡ [])
     comes = answers home line good from (PutX words) rest p apart front
 
-    wants : (op : Op) × (marked : Bool) × (line.line.want p ≡ wanting op marked) × (is_load op.kind ≡ false) × (line.line.copy p ≡ Absent)
+    pub wants : (op : Op) × (marked : Bool) × (line.line.want p ≡ wanting op marked) × (is_load op.kind ≡ false) × (line.line.copy p ≡ Absent)
     wants = wanted (PutX words) comes.0
 
     writes_on : (holds_in (draining_role good.grantee good.holds p) ≡ true) × (words ≡ line.words_at (good.has p)) × IsGoodNode (draining_role good.grantee good.holds p) (after_op wants.0 (line.words_at (good.has p))) (listed line.line.header.list p) (Exclusive (after_op wants.0 words)) None (record (good.status p) { carrier = Resting })
@@ -143,25 +143,28 @@ module _ (home : ℕ) (line : AgedLine) (newest : line.words_at line.top ≡ lin
     newest-held : good.has p ≡ line.top
     newest-held = rw (holder.0, holder.1) at (good.ages.aged p apart (putx-has (line.line.copy p) (line.line.want p) (good.status p) from words comes.0))
 
-    held-words : line.words_at (good.has p) ≡ line.line.words
+    pub held-words : line.words_at (good.has p) ≡ line.line.words
     held-words = ap line.words_at newest-held ∙ newest
 
-    abbrev row : Outcome
+    pub putx-words : words ≡ line.line.words
+    putx-words = writes_on.1 ∙ held-words
+
+    abbrev pub row : Outcome
     row = record { share = record (share_of line.line p) { copy = Exclusive (after_op wants.0 words); want = None }; sends = no_message; served = Own wants.0 words; done = true }
 
-    is-row : on_message p home from (is_empty (line.line.copy p)) room (PutX words) (share_of line.line p) ≡ row
+    pub is-row : on_message p home from (is_empty (line.line.copy p)) room (PutX words) (share_of line.line p) ≡ row
     is-row = does-putx p home apart from (share_of line.line p) wants.0 wants.1 wants.2 words room wants.3 wants.4
 
-    abbrev next : LineAges
+    abbrev pub next : LineAges
     next = record (ages_of line p) { copy = age }
 
     pub given-age : age ≡ line.top
     given-age = (taken-ages line _ good.ages.lanes from p Reply (PutX words) rest age ages front first).0 ∙ newest-held
 
-    putx-met : meets p home from (is_empty (line.line.copy p)) (PutX words) (share_of line.line p) ≡ true
+    pub putx-met : meets p home from (is_empty (line.line.copy p)) (PutX words) (share_of line.line p) ≡ true
     putx-met = meets-putx p home apart from (share_of line.line p) wants.0 wants.1 wants.2 words wants.3 wants.4
 
-    putx-row : IsRowAway home line newest good p apart row (with_copy row.share.copy next) (taken from p Reply rest line.line.lane) (taken_age from p Reply ages line.lane_age) (record (good.status p) { carrier = Resting })
+    pub putx-row : IsRowAway home line newest good p apart row (with_copy row.share.copy next) (taken from p Reply rest line.line.lane) (taken_age from p Reply ages line.lane_age) (record (good.status p) { carrier = Resting })
     putx-row =
         let taken_ages = taken-ages line _ good.ages.lanes from p Reply (PutX words) rest age ages front first in
         record {

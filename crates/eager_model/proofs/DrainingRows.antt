@@ -63,7 +63,11 @@ header-now home grantee holds words next header copy me apart (inr writes) good 
     let held : holds ≡ true = writes.1 in
     let away : (grantee == home) ≡ false = let e = writes.0 in grind (arith, nat_tests) in
     record {
-      waits = good.waits; dirty = good.dirty; some = good.some; due = good.due; granted = good.granted;
+      waits = good.waits;
+      dirty = good.dirty;
+      some = good.some;
+      due = good.due;
+      granted = good.granted;
       memory = rw held tt;
       own = rw (held, away) (rw (held, away) at good.own);
     }

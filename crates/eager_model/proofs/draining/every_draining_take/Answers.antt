@@ -1,0 +1,12 @@
+use Rattle.eager_model.proofs.DrainingTakes.{good-take}
+use Rattle.eager_model.proofs.DrainingServed.{take-serves}
+use Rattle.eager_model.proofs.draining.every_draining_take.Goals as goal
+
+pub returns-clause-kept : goal.returns-clause-kept
+returns-clause-kept c = λ home line from to class content rest age ages room newest good front first. good-take home line newest good from rest age ages room to class content front first
+
+pub returns-clause-served : goal.returns-clause-served
+returns-clause-served c = λ home line from to class content rest age ages room newest good front first. (take-serves home line newest good from rest age ages room to class content front first).0
+
+pub returns-clause-aged : goal.returns-clause-aged
+returns-clause-aged c = λ home line from to class content rest age ages room newest good front first. (take-serves home line newest good from rest age ages room to class content front first).1
