@@ -41,7 +41,7 @@ module _ (home : ℕ) (line : AgedLine) (newest : line.words_at line.top ≡ lin
     pub last : IsLastWithin (line.last home) (good.has home) row.share.copy (status home) row.served
 
   module _ (is : IsRowHome) where
-    home-top : home_done.top ≡ line.top
+    pub home-top : home_done.top ≡ line.top
     home-top = drain-top home line newest good home row ages lane lane_age is.copy is.sends
 
     node-now : (node : ℕ) → node ≢ home →
