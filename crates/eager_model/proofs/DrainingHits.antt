@@ -26,7 +26,7 @@ use Rattle.eager_model.proofs.DrainingTaken.{kept-copy}
 serving-has : (op : Op) (copy : Copy) → serves op copy ≡ true → is_empty copy ≡ false
 serving-has op copy serve = grind arith
 
-copy-has : (copy : Copy) (want : Option Want) (status : Status) → is_empty copy ≡ false → has_words copy want status ≡ true
+pub copy-has : (copy : Copy) (want : Option Want) (status : Status) → is_empty copy ≡ false → has_words copy want status ≡ true
 copy-has copy want status some = grind arith
 
 pub exclusive-serves : (op : Op) (copy : Copy) → serves op copy ≡ true → is_load op.kind ≡ false → (has : Words) × (copy ≡ Exclusive has)
