@@ -72,3 +72,67 @@ module _ (home : ℕ) (line : AgedLine) (newest : line.words_at line.top ≡ lin
   leave-away p apart way.Silent fit =
       away-good home line newest good p apart _ _ _ _ _
       (left-row p apart way.Silent fit NotLeaving refl no_message (none-sent (line.copy_age p) line.top good.has p) refl (λ b. refl) (λ b far. refl) _ refl)
+
+  -- memory takes the words of the home's copy
+  module _ (kind : EvictKind) (fit : fits true kind (line.line.copy home) ≡ true) where
+    home-some : is_empty (line.line.copy home) ≡ false
+    home-some = fit-some true kind (line.line.copy home) fit
+
+    own : ((home == good.grantee) ≡ true) × (good.holds ≡ true) × (line.line.copy home ≡ Exclusive line.line.words)
+    own = home-holds home good.grantee good.holds line.line.words (line.line.copy home) good.header.own home-some
+
+    home-held : line.copy_age home ≡ line.top
+    home-held = good.ages.copies home ∙ rw home-some good.ages.at_home
+
+    abbrev taken_back : Outcome
+    taken_back = sending (record (share_of line.line home) { copy = Absent; header = record line.line.header { local = false; dirty = false; memory = line.line.words } }) no_message
+
+    abbrev back : LineAges
+    back = record { copy = 0; memory = line.copy_age home }
+
+    same-role : (node : ℕ) → node ≢ home → draining_role good.grantee false node ≡ draining_role good.grantee good.holds node
+    same-role node far = let isnt : (node == good.grantee) ≡ false = let e = own.0 in grind (arith, nat_tests) in rw isnt
+
+    back-row : IsRowHome home line newest good taken_back back line.line.lane line.lane_age good.status false
+    back-row =
+        record {
+          lanes = lanes-quiet home line.line.lane good.status good.lanes home;
+          lane_ages = good.ages.lanes;
+          copy = refl;
+          sends = none-sent (given_age home line home) line.top good.has home;
+          writes = inl refl;
+          header = record { waits = good.header.waits; dirty = refl; memory = refl; some = good.header.some; due = good.header.due; granted = good.header.granted; own = refl };
+          list = refl;
+          local = refl;
+          at_home = record { carried = resting-any (line.line.want home) (line.line.copy home) Absent (good.status home).carrier good.at_home.carrier good.at_home.carried; stays = good.at_home.stays; off_duty = good.at_home.off_duty; carrier = good.at_home.carrier };
+          nodes = λ node far. rw (same-role node far) (good.nodes node far);
+          had = λ node far e. rw (same-role node far) (good.ages.aged node far e);
+          puts = λ node e. e;
+          answered = good.answered;
+          memory = λ clean. home-held;
+          last = (λ held. absurd (grind arith), good.ages.of_put home);
+        }
+
+    leave-at-home : Keeps home (leave_home (line.line.copy home) (share_of line.line home))
+    leave-at-home =
+        subst (λ c. Of (leave_home c (share_of line.line home)) (is_exclusive c)) (sym own.2) (subst (λ b. Left taken_back (b && true)) (sym (eqb-self home)) (home-good home line newest good taken_back back line.line.lane line.lane_age good.status false back-row))
+      where
+        Left : Outcome → Bool → Type 0
+        Left o b = IsEagerGood home (aged_row home home o (with_copy o.share.copy (cond b (record (ages_of line home) { memory = line.copy_age home }) (ages_of line home))) line)
+
+        Of : Outcome → Bool → Type 0
+        Of o b = Left o ((home == home) && b)
+
+  pub good-evict : (p : ℕ) (kind : EvictKind) (o : Outcome) → evict p home kind (share_of line.line p) ≡ Ok o → Keeps p o
+  unfolding evict
+  good-evict p kind o =
+      if-either Gives (fits (p == home) kind (line.line.copy p)) _ _
+      (λ fit e. let is : cond (p == home) (leave_home (line.line.copy p) (share_of line.line p)) (leave_remote home kind (share_of line.line p)) ≡ o = cc in subst (Keeps p) is (go (p == home) refl fit))
+      (λ _ e. absurd (err-ok _ o e))
+    where
+      Gives : Result Outcome Cause → Type 0
+      Gives r = r ≡ Ok o → Keeps p o
+
+      go : (c : Bool) → (p == home) ≡ c → fits c kind (line.line.copy p) ≡ true → Keeps p (cond c (leave_home (line.line.copy p) (share_of line.line p)) (leave_remote home kind (share_of line.line p)))
+      go true e fit = let same : home ≡ p = grind (arith, nat_tests) in subst (λ k. fits true kind (line.line.copy k) ≡ true → Keeps k (leave_home (line.line.copy k) (share_of line.line k))) same (leave-at-home kind) fit
+      go false e fit = leave-away p (grind (arith, nat_tests)) kind fit
