@@ -7,14 +7,14 @@ use Rattle.op_model.specs.declared.events.EvictKind.TheVariants as way
 use Rattle.op_model.specs.Nodes.{listed}
 use Rattle.op_model.specs.Operations.{is_load}
 use Rattle.op_model.specs.Messages.{Content, Get, GetX, Wb, Rpl}
-use Rattle.op_model.specs.Lines.{Copy, Absent, Shared, Exclusive, Room, Outcome, sending, no_message, one_to, begun, is_empty, is_pending, words_of, without_shared}
+use Rattle.op_model.specs.Lines.{Copy, Absent, Shared, Exclusive, Room, Outcome, NoService, sending, no_message, one_to, begun, is_empty, is_pending, words_of, without_shared}
 use Rattle.op_model.specs.Tables.Processor.{serves, ask, begin_at_home, fits, evict, leave_remote, leave_home}
 use Rattle.op_model.specs.Tables.Processor as delayed
 use Rattle.op_model.specs.Events.Node.{map_ok}
 use Rattle.op_model.proofs.Plain.{err-ok, eqb-self}
 use Rattle.line_invariant.specs.Line.{share_of}
 use Rattle.line_invariant.specs.Good.{Status, Resting, Asking, AskingX, NotLeaving, is_put}
-use Rattle.line_invariant.specs.Rows.{IsOwnServed, IsOwnWant, EndsRight}
+use Rattle.line_invariant.specs.Rows.{IsOwnWant, EndsRight}
 use Rattle.line_invariant.proofs.Basics.{if-either}
 use Rattle.line_invariant.proofs.RemoteLanes.{lanes-ask, lanes-leave}
 use Rattle.line_invariant.proofs.HomeLanes.{lanes-quiet}
@@ -54,7 +54,7 @@ module _ (home : ℕ) (line : AgedLine) (newest : line.words_at line.top ≡ lin
     Keeps o = IsEagerGood home (aged_row home p o (with_copy o.share.copy (ages_begun o (ages_of line p))) line)
 
     abbrev Fine : Outcome → Type 0
-    Fine o = Keeps o × IsOwnServed op line.line.words o.served × IsOwnWant op o.share.want × EndsRight ⊥ o
+    Fine o = Keeps o × (o.served ≡ NoService) × IsOwnWant op o.share.want × EndsRight ⊥ o
 
     module _ (apart : p ≢ home) (miss : serves op (line.line.copy p) ≡ false) where
       rests : (good.status p).carrier ≡ Resting
@@ -86,8 +86,8 @@ module _ (home : ℕ) (line : AgedLine) (newest : line.words_at line.top ≡ lin
       unfolding ask
       ask-fine =
           if-either Fine (is_load op.kind) _ _
-          (λ load. (away-good home line newest good p apart _ _ _ _ _ (ask-row true load), tt, refl, tt))
-          (λ write. (away-good home line newest good p apart _ _ _ _ _ (ask-row false write), tt, refl, tt))
+          (λ load. (away-good home line newest good p apart _ _ _ _ _ (ask-row true load), refl, refl, tt))
+          (λ write. (away-good home line newest good p apart _ _ _ _ _ (ask-row false write), refl, refl, tt))
 
     pending : is_pending line.line.header ≡ true
     pending = rw good.header.waits

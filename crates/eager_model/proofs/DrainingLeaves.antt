@@ -6,7 +6,7 @@ use Rattle.line_invariant.specs.Types.{EvictKind}
 use Rattle.op_model.specs.declared.events.EvictKind.TheVariants as way
 use Rattle.op_model.specs.Nodes.{listed}
 use Rattle.op_model.specs.Messages.{Content, Wb, Rpl}
-use Rattle.op_model.specs.Lines.{Copy, Absent, Shared, Exclusive, Outcome, sending, no_message, one_to, is_empty, is_exclusive, words_of}
+use Rattle.op_model.specs.Lines.{Copy, Absent, Shared, Exclusive, LineShare, Outcome, NoService, sending, no_message, one_to, is_empty, is_exclusive, words_of}
 use Rattle.op_model.specs.Tables.Processor.{fits, evict, leave_remote, leave_home}
 use Rattle.op_model.proofs.Plain.{err-ok, eqb-self}
 use Rattle.line_invariant.specs.Line.{share_of, addressed}
@@ -136,3 +136,26 @@ module _ (home : ℕ) (line : AgedLine) (newest : line.words_at line.top ≡ lin
       go : (c : Bool) → (p == home) ≡ c → fits c kind (line.line.copy p) ≡ true → Keeps p (cond c (leave_home (line.line.copy p) (share_of line.line p)) (leave_remote home kind (share_of line.line p)))
       go true e fit = let same : home ≡ p = grind (arith, nat_tests) in subst (λ k. fits true kind (line.line.copy k) ≡ true → Keeps k (leave_home (line.line.copy k) (share_of line.line k))) same (leave-at-home kind) fit
       go false e fit = leave-away p (grind (arith, nat_tests)) kind fit
+
+leave-quiet : (home : ℕ) (kind : EvictKind) (share : LineShare) → (leave_remote home kind share).served ≡ NoService
+leave-quiet home way.Wb share = refl
+leave-quiet home way.Hint share = refl
+leave-quiet home way.Silent share = refl
+
+home-quiet : (copy : Copy) (share : LineShare) → (leave_home copy share).served ≡ NoService
+home-quiet Absent share = refl
+home-quiet (Shared words) share = refl
+home-quiet (Exclusive words) share = refl
+
+pub evict-quiet : (p home : ℕ) (kind : EvictKind) (share : LineShare) (o : Outcome) → evict p home kind share ≡ Ok o → o.served ≡ NoService
+unfolding evict
+evict-quiet p home kind share o =
+    if-either Gives (fits (p == home) kind share.copy) _ _
+    (λ fit e. let is : cond (p == home) (leave_home share.copy share) (leave_remote home kind share) ≡ o = cc in subst Quiet is (if-either Quiet (p == home) _ _ (λ _. home-quiet share.copy share) (λ _. leave-quiet home kind share)))
+    (λ _ e. absurd (err-ok _ o e))
+  where
+    Quiet : Outcome → Type 0
+    Quiet row = row.served ≡ NoService
+
+    Gives : Result Outcome Cause → Type 0
+    Gives r = r ≡ Ok o → Quiet o

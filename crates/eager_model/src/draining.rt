@@ -1,13 +1,16 @@
 //! A line that drains: every event keeps it good, and what is served on it is served on the words of its age.
 
-ghost use Rattle.std.specs.Prelude.{◌≡◌, ℕ, true, List, ◌∷◌};
-ghost use Rattle.eager_model.specs.Types.{Class};
+ghost use Rattle.std.specs.Prelude.{◌≡◌, ℕ, true, List, ◌∷◌, None, Ok};
+ghost use Rattle.eager_model.specs.Types.{Class, Op};
+ghost use Rattle.line_invariant.specs.Types.{EvictKind};
 ghost use Rattle.op_model.specs.Messages.{Content};
-ghost use Rattle.op_model.specs.Lines.{Room, is_empty};
+ghost use Rattle.op_model.specs.Lines.{LineShare, Room, NoService, Outcome, is_empty};
+ghost use Rattle.op_model.specs.Tables.Processor.{serves, evict};
 ghost use Rattle.line_invariant.specs.Line.{share_of};
-ghost use Rattle.line_invariant.specs.Rows.{IsServedFor};
-ghost use Rattle.eager_model.specs.Rows.{meets};
+ghost use Rattle.line_invariant.specs.Rows.{IsServedFor, IsOwnWant, EndsRight};
+ghost use Rattle.eager_model.specs.Rows.{begin_op, meets};
 ghost use Rattle.eager_model.specs.Line.{AgedLine, after_take, row_taken, ages_after_take};
+ghost use Rattle.eager_model.specs.Processor.{hit_row, ages_after_hit, after_hit, after_begin, after_leave};
 ghost use Rattle.eager_model.specs.Good.{IsEagerGood, IsDraining};
 ghost use Rattle.eager_model.specs.Served.{age_served, IsServedAt};
 
@@ -21,4 +24,24 @@ pub fn every_draining_take()
     ensures kept { (home : ℕ) (line : AgedLine) (from to : ℕ) (class : Class) (content : Content) (rest : List Content) (age : ℕ) (ages : List ℕ) (room : Room) → line.words_at line.top ≡ line.line.words → IsDraining home line → line.line.lane from to class ≡ content ∷ rest → line.lane_age from to class ≡ age ∷ ages → IsEagerGood home (after_take home from to class content rest age ages room line) }
     ensures served { (home : ℕ) (line : AgedLine) (from to : ℕ) (class : Class) (content : Content) (rest : List Content) (age : ℕ) (ages : List ℕ) (room : Room) → line.words_at line.top ≡ line.line.words → IsDraining home line → line.line.lane from to class ≡ content ∷ rest → line.lane_age from to class ≡ age ∷ ages → IsServedFor line.line.want line.line.answered to line.line.words (row_taken home from to content room line.line).served }
     ensures aged { (home : ℕ) (line : AgedLine) (from to : ℕ) (class : Class) (content : Content) (rest : List Content) (age : ℕ) (ages : List ℕ) (room : Room) → line.words_at line.top ≡ line.line.words → IsDraining home line → line.line.lane from to class ≡ content ∷ rest → line.lane_age from to class ≡ age ∷ ages → IsServedAt line (after_take home from to class content rest age ages room line).top to (age_served home to (row_taken home from to content room line.line) (ages_after_take home from to content age room line) line) (row_taken home from to content room line.line).served }
+{}
+
+/// While a line drains, an operation that a copy serves keeps it good. A load is done on the words of the copy's age, a write on the newest words and at the greatest age.
+pub fn every_draining_hit()
+    ensures kept { (home : ℕ) (line : AgedLine) (node : ℕ) (op : Op) → line.words_at line.top ≡ line.line.words → IsDraining home line → serves op (line.line.copy node) ≡ true → IsEagerGood home (after_hit home node op line) }
+    ensures aged { (home : ℕ) (line : AgedLine) (node : ℕ) (op : Op) → line.words_at line.top ≡ line.line.words → IsDraining home line → serves op (line.line.copy node) ≡ true → IsServedAt line (after_hit home node op line).top node (age_served home node (hit_row node op line) (ages_after_hit node op line) line) (hit_row node op line).served }
+{}
+
+/// While a line drains, beginning an operation keeps it good. It is left begun, and nothing is served.
+pub fn every_draining_beginning()
+    ensures kept { (home : ℕ) (line : AgedLine) (node : ℕ) (op : Op) (room : Room) (outcome : Outcome) → line.words_at line.top ≡ line.line.words → IsDraining home line → line.line.want node ≡ None → begin_op node home room op (share_of line.line node) ≡ Ok outcome → IsEagerGood home (after_begin home node outcome line) }
+    ensures served { (home : ℕ) (line : AgedLine) (node : ℕ) (op : Op) (room : Room) (outcome : Outcome) → line.words_at line.top ≡ line.line.words → IsDraining home line → line.line.want node ≡ None → begin_op node home room op (share_of line.line node) ≡ Ok outcome → outcome.served ≡ NoService }
+    ensures begun { (home : ℕ) (line : AgedLine) (node : ℕ) (op : Op) (room : Room) (outcome : Outcome) → line.words_at line.top ≡ line.line.words → IsDraining home line → line.line.want node ≡ None → begin_op node home room op (share_of line.line node) ≡ Ok outcome → IsOwnWant op outcome.share.want }
+    ensures done { (home : ℕ) (line : AgedLine) (node : ℕ) (op : Op) (room : Room) (outcome : Outcome) → line.words_at line.top ≡ line.line.words → IsDraining home line → line.line.want node ≡ None → begin_op node home room op (share_of line.line node) ≡ Ok outcome → EndsRight ⊥ outcome }
+{}
+
+/// While a line drains, an eviction keeps it good. It serves nothing.
+pub fn every_draining_eviction()
+    ensures kept { (home : ℕ) (line : AgedLine) (node : ℕ) (kind : EvictKind) (outcome : Outcome) → line.words_at line.top ≡ line.line.words → IsDraining home line → evict node home kind (share_of line.line node) ≡ Ok outcome → IsEagerGood home (after_leave home node outcome line) }
+    ensures served { (node home : ℕ) (kind : EvictKind) (share : LineShare) (outcome : Outcome) → evict node home kind share ≡ Ok outcome → outcome.served ≡ NoService }
 {}
