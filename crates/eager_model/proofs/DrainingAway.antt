@@ -81,9 +81,6 @@ module _ (home : ℕ) (line : AgedLine) (newest : line.words_at line.top ≡ lin
   wanted : (content : Content) → (good.status p).carrier ≡ Answered from content → (op : Op) × (marked : Bool) × (line.line.want p ≡ wanting op marked) × IsAnswerTo (is_load op.kind) content × (line.line.copy p ≡ Absent)
   wanted content is = answered (line.line.want p) (line.line.copy p) from content (rw is at (good.nodes p apart).carried)
 
-  no-copy : line.line.copy p ≡ Absent → line.copy_age p ≡ 0
-  no-copy none = good.ages.copies p ∙ rw none
-
   pub good-nak : (cause : NakCause) → line.line.lane from p Reply ≡ Nak cause ∷ rest → line.lane_age from p Reply ≡ age ∷ ages → IsEagerGood home (after_take home from p Reply (Nak cause) rest age ages room line)
   unfolding on_nak
   good-nak cause front first =

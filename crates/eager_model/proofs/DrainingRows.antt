@@ -36,9 +36,6 @@ module _ (home : ℕ) (line : AgedLine) (newest : line.words_at line.top ≡ lin
   pub drain-top : drain_done.top ≡ line.top
   drain-top = done-top home line good.status (draining_role good.grantee good.holds) good.has good.ages me row ages lane lane_age copy sends
 
-  pub drain-newest : drain_done.words_at drain_done.top ≡ drain_done.line.words
-  drain-newest = at-top line.words_at drain_done.line.words drain_done.top
-
   -- the words of an age are the same ones, or another node has none of the greatest age
   pub same-at : (holds : Bool) (node : ℕ) → node ≢ me → IsWriteOf good.grantee good.holds me line.line.words drain_done.line.words →
       IsAgeIn (draining_role good.grantee holds node) (good.has node) line.top → drain_done.words_at (good.has node) ≡ line.words_at (good.has node)
