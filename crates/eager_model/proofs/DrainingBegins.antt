@@ -26,11 +26,10 @@ use Rattle.eager_model.specs.Ages.{LineAges, with_copy, ages_begun, ages_left}
 use Rattle.eager_model.specs.Line.{AgedLine, ages_of, aged_row}
 use Rattle.eager_model.specs.Good.{IsEagerGood, IsDraining, has_words, draining_role}
 use Rattle.eager_model.proofs.Quiet.{words-same}
-use Rattle.eager_model.proofs.SentAges.{AreSentAges, given_age, none-sent, one-sent}
+use Rattle.eager_model.proofs.SentAges.{kept-copy, AreSentAges, given_age, none-sent, one-sent}
 use Rattle.eager_model.proofs.DrainingRows.{IsRowAway, away-good}
 use Rattle.eager_model.proofs.DrainingHome.{IsRowHome, home-good}
 use Rattle.eager_model.proofs.DrainingAway.{dropped-copy, stays-held}
-use Rattle.eager_model.proofs.DrainingTaken.{kept-copy}
 use Rattle.eager_model.proofs.DrainingHits.{home-holds, resting-any}
 
 ask-had : (copy : Copy) (want : Option Want) (status : Status) (op : Op) (load : Bool) → want ≡ None → status.carrier ≡ Resting →

@@ -17,11 +17,10 @@ use Rattle.eager_model.specs.Line.{AgedLine, ages_of, aged_row}
 use Rattle.eager_model.specs.Good.{IsEagerGood, IsDraining, IsHomeCopy, has_words, draining_role}
 use Rattle.eager_model.specs.Served.{age_served, IsServedAt, IsServedOn}
 use Rattle.eager_model.proofs.Quiet.{words-same}
-use Rattle.eager_model.proofs.SentAges.{given_age, none-sent}
+use Rattle.eager_model.proofs.SentAges.{kept-copy, given_age, none-sent}
 use Rattle.eager_model.proofs.DrainingRows.{IsRowAway, away-good, away-top}
 use Rattle.eager_model.proofs.DrainingHome.{IsRowHome, home-good, home-top}
 use Rattle.eager_model.proofs.DrainingAtHome.{holder-is}
-use Rattle.eager_model.proofs.DrainingTaken.{kept-copy}
 
 serving-has : (op : Op) (copy : Copy) → serves op copy ≡ true → is_empty copy ≡ false
 serving-has op copy serve = grind arith

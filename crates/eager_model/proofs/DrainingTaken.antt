@@ -14,14 +14,9 @@ use Rattle.line_invariant.proofs.Marks.{keep}
 use Rattle.eager_model.specs.Ages.{LineAges}
 use Rattle.eager_model.specs.Line.{AgedLine, taken_age, aged_row}
 use Rattle.eager_model.specs.Good.{IsEagerGood, IsDraining, IsDrainingHeader, IsAgeIn, has_words, draining_role}
-use Rattle.eager_model.proofs.SentAges.{AreSentAges, row_done, given_age, taken-ages}
+use Rattle.eager_model.proofs.SentAges.{AreSentAges, kept-copy, row_done, given_age, taken-ages}
 use Rattle.eager_model.proofs.DrainingRows.{at-each}
 use Rattle.eager_model.proofs.DrainingHome.{IsRowHome, home-good}
-
--- a copy that stays keeps its age
-pub kept-copy : (b : Bool) (age has : ℕ) → age ≡ cond b 0 has → cond b 0 age ≡ cond b 0 has
-kept-copy true age has e = refl
-kept-copy false age has e = e
 
 module _ (home : ℕ) (line : AgedLine) (newest : line.words_at line.top ≡ line.line.words) (good : IsDraining home line) (p : ℕ) (apart : p ≢ home)
     (class : Class) (content : Content) (rest : List Content) (age : ℕ) (ages : List ℕ) (front : line.line.lane p home class ≡ content ∷ rest) (first : line.lane_age p home class ≡ age ∷ ages)

@@ -23,6 +23,11 @@ none-sent given top has me = record { within = grind arith; same = λ b class. r
 pub one-sent : (given top : ℕ) (has : ℕ → ℕ) (me node : ℕ) (content : Content) → sent_age given content ≡ message_age top has me node content → sent_age given content ≤ top → AreSentAges given top has me (one_to node content)
 one-sent given top has me node content same le = record { within = grind (arith, nat_tests); same = λ b class. grind (arith, nat_tests) }
 
+-- a copy that stays keeps its age
+pub kept-copy : (b : Bool) (age has : ℕ) → age ≡ cond b 0 has → cond b 0 age ≡ cond b 0 has
+kept-copy true age has e = refl
+kept-copy false age has e = e
+
 -- the ages of a lane after its first message is taken
 pub taken-ages : (line : AgedLine) (f : ℕ → ℕ → Content → ℕ) → ((a b : ℕ) (class : Class) → line.lane_age a b class ≡ map (f a b) (line.line.lane a b class)) →
     (from to : ℕ) (class : Class) (content : Content) (rest : List Content) (age : ℕ) (ages : List ℕ) → line.line.lane from to class ≡ content ∷ rest → line.lane_age from to class ≡ age ∷ ages →
