@@ -1,26 +1,22 @@
 -- While a line drains its home refuses each request, and takes the words that the grantee writes back, H1, H9 and H25.
-use Rattle.std.proofs.Common.{◌≡◌, ◌≢◌, ℕ, Bool, true, false, cond, ◌==◌, ◌&&◌, not, List, [], ◌∷◌, ◌++◌, refl, arith, ap, sym, ◌∙◌, Option}
+use Rattle.std.proofs.Common.{◌≡◌, ◌≢◌, ℕ, Bool, true, false, cond, ◌==◌, List, [], ◌∷◌, refl, arith, ap, sym, ◌∙◌, Option}
 use Rattle.std.proofs.lemmas.Bool.Decides.{nat_tests}
 use Rattle.eager_model.specs.Types.{Request, Want}
 use Rattle.line_invariant.specs.Types.{Pending}
 use Rattle.op_model.specs.Nodes.{listed, none, count}
 use Rattle.op_model.specs.Operations.{Words}
 use Rattle.op_model.specs.Messages.{Content, Get, GetX, Wb, Nak}
-use Rattle.op_model.specs.Lines.{Absent, Copy, Header, LineShare, Room, no_message, one_to, is_empty, is_idle, is_pending}
+use Rattle.op_model.specs.Lines.{Absent, Copy, Header, Room, no_message, one_to, is_empty, is_idle}
 use Rattle.op_model.specs.Tables.Home.{refuse, on_wb}
-use Rattle.op_model.specs.Events.Step.{put_at}
-use Rattle.line_invariant.specs.Line.{share_of, taken}
+use Rattle.line_invariant.specs.Line.{share_of}
 use Rattle.line_invariant.specs.Good.{Status, Asking, AskingX, Answered, NotLeaving, WritesBack, NoDuty, Bare, Holds, Usual, Role, IsGoodNode, holds_in, is_put, asking_part}
-use Rattle.op_model.proofs.Plain.{eqb-self}
-use Rattle.std.proofs.lemmas.Bool.{ne_eqb}
 use Rattle.line_invariant.proofs.Fronts.{wb-first}
 use Rattle.line_invariant.proofs.HomeLanes.{lanes-reply}
 use Rattle.line_invariant.proofs.HomeNodes.{node-refused}
 use Rattle.line_invariant.proofs.LeaveRows.{node-wrote-back}
-use Rattle.eager_model.specs.Rows.{Drain, meets}
-use Rattle.eager_model.specs.Ages.{LineAges}
+use Rattle.eager_model.specs.Rows.{meets}
 use Rattle.eager_model.specs.Line.{AgedLine, ages_of, after_take}
-use Rattle.eager_model.specs.Good.{IsEagerGood, IsDraining, IsDrainingHeader, IsAgeIn, has_words, draining_role}
+use Rattle.eager_model.specs.Good.{IsEagerGood, IsDraining, has_words, draining_role}
 use Rattle.eager_model.proofs.Hints.{lanes-departed}
 use Rattle.eager_model.proofs.Acknowledgements.{bare-has-none}
 use Rattle.eager_model.proofs.SentAges.{none-sent, one-sent, given_age, taken-ages}

@@ -1,17 +1,16 @@
 -- While a line drains, each message that a node other than the home takes keeps it good: an Inv, N7, and the answers to what it has begun, N8, N9, N11 and N13.
-use Rattle.std.proofs.Common.{◌≡◌, ◌≢◌, ℕ, Bool, true, false, cond, nat_lt, ◌==◌, List, [], ◌∷◌, refl, arith, ap, sym, ◌∙◌, inl, inr, Option, None, subst}
+use Rattle.std.proofs.Common.{◌≡◌, ◌≢◌, ℕ, Bool, true, false, cond, nat_lt, ◌==◌, List, [], ◌∷◌, refl, arith, ap, sym, ◌∙◌, inl, inr, Option, None}
 use Rattle.std.proofs.lemmas.Bool.Decides.{nat_tests}
 use Rattle.eager_model.specs.Types.{Op, Request, Reply, Want}
 use Rattle.line_invariant.specs.Types.{NakCause}
 use Rattle.op_model.specs.Nodes.{listed}
 use Rattle.op_model.specs.Operations.{Words, is_load, after_op}
 use Rattle.op_model.specs.Messages.{Content, Inv, Put, PutX, Nak, InvAck}
-use Rattle.op_model.specs.Lines.{Copy, Absent, Shared, Exclusive, Room, Outcome, NoService, Own, no_message, one_to, is_empty, without_shared, marked_load}
+use Rattle.op_model.specs.Lines.{Copy, Absent, Shared, Exclusive, Room, Outcome, NoService, Own, no_message, is_empty, without_shared, marked_load}
 use Rattle.op_model.specs.Tables.Remote.{on_inv, on_nak}
 use Rattle.line_invariant.specs.Line.{share_of, taken}
-use Rattle.line_invariant.specs.Good.{Status, Resting, Answered, Acked, Told, NoDuty, Recalled, Holds, Role, IsGoodNode, IsAnswerTo, holds_in, is_put}
+use Rattle.line_invariant.specs.Good.{Status, Resting, Answered, Acked, Recalled, IsGoodNode, IsAnswerTo, holds_in, is_put}
 use Rattle.line_invariant.specs.Rows.{wanting}
-use Rattle.std.proofs.lemmas.Bool.{ne_eqb}
 use Rattle.line_invariant.proofs.RemoteLanes.{lanes-inv, lanes-answer}
 use Rattle.line_invariant.proofs.RemoteNodes.{node-inv, node-put, node-nak}
 use Rattle.line_invariant.proofs.RemoteRows.{answered}

@@ -2,35 +2,29 @@
 use Rattle.std.proofs.Common.{◌≡◌, ◌≢◌, ℕ, Bool, true, false, cond, ◌==◌, ◌&&◌, refl, arith, ap, sym, ◌∙◌, subst, inl, Result, Ok, Err, Option, None}
 use Rattle.std.proofs.lemmas.Bool.Decides.{nat_tests}
 use Rattle.eager_model.specs.Types.{Cause, Op, Want}
-use Rattle.line_invariant.specs.Types.{EvictKind, HeldPending}
-use Rattle.op_model.specs.declared.events.EvictKind.TheVariants as way
-use Rattle.op_model.specs.Nodes.{listed}
+use Rattle.line_invariant.specs.Types.{HeldPending}
 use Rattle.op_model.specs.Operations.{is_load}
-use Rattle.op_model.specs.Messages.{Content, Get, GetX, Wb, Rpl}
-use Rattle.op_model.specs.Lines.{Copy, Absent, Shared, Exclusive, Room, Outcome, NoService, sending, no_message, one_to, begun, is_empty, is_pending, words_of, without_shared}
+use Rattle.op_model.specs.Messages.{Content, Get, GetX}
+use Rattle.op_model.specs.Lines.{Copy, Room, Outcome, NoService, sending, one_to, begun, is_empty, is_pending, without_shared}
 use Rattle.op_model.specs.Tables.Processor.{serves, ask, begin_at_home, fits, evict, leave_remote, leave_home}
 use Rattle.op_model.specs.Tables.Processor as delayed
 use Rattle.op_model.specs.Events.Node.{map_ok}
-use Rattle.op_model.proofs.Plain.{err-ok, eqb-self}
+use Rattle.op_model.proofs.Plain.{err-ok}
 use Rattle.line_invariant.specs.Line.{share_of}
-use Rattle.line_invariant.specs.Good.{Status, Resting, Asking, AskingX, NotLeaving, is_put}
+use Rattle.line_invariant.specs.Good.{Status, Resting, Asking, AskingX, is_put}
 use Rattle.line_invariant.specs.Rows.{IsOwnWant, EndsRight}
 use Rattle.line_invariant.proofs.Basics.{if-either}
-use Rattle.line_invariant.proofs.RemoteLanes.{lanes-ask, lanes-leave}
-use Rattle.line_invariant.proofs.HomeLanes.{lanes-quiet}
-use Rattle.line_invariant.proofs.LocalNodes.{node-ask, node-leave, leaving_by, carried-empty}
+use Rattle.line_invariant.proofs.RemoteLanes.{lanes-ask}
+use Rattle.line_invariant.proofs.LocalNodes.{node-ask}
 use Rattle.line_invariant.proofs.Marks.{keep, asks}
-use Rattle.std.proofs.lemmas.Bool.{ne_eqb}
 use Rattle.eager_model.specs.Rows.{begin_op, write_and_drain, writes_shared}
-use Rattle.eager_model.specs.Ages.{LineAges, with_copy, ages_begun, ages_left}
+use Rattle.eager_model.specs.Ages.{with_copy, ages_begun}
 use Rattle.eager_model.specs.Line.{AgedLine, ages_of, aged_row}
-use Rattle.eager_model.specs.Good.{IsEagerGood, IsDraining, has_words, draining_role}
+use Rattle.eager_model.specs.Good.{IsEagerGood, IsDraining, has_words}
 use Rattle.eager_model.proofs.Quiet.{words-same}
-use Rattle.eager_model.proofs.SentAges.{kept-copy, AreSentAges, given_age, none-sent, one-sent}
+use Rattle.eager_model.proofs.SentAges.{kept-copy, AreSentAges, one-sent}
 use Rattle.eager_model.proofs.DrainingRows.{IsRowAway, away-good}
-use Rattle.eager_model.proofs.DrainingHome.{IsRowHome, home-good}
 use Rattle.eager_model.proofs.DrainingAway.{dropped-copy, stays-held}
-use Rattle.eager_model.proofs.DrainingHits.{home-holds, resting-any}
 
 ask-had : (copy : Copy) (want : Option Want) (status : Status) (op : Op) (load : Bool) → want ≡ None → status.carrier ≡ Resting →
     has_words (cond load copy (without_shared copy)) (begun op) (record status { carrier = cond load Asking AskingX }) ≡ true → has_words copy want status ≡ true

@@ -1,14 +1,14 @@
 -- What a message leaves begun at its taker while a line drains, what it ends, and what holds of an operation that is begun.
 use Rattle.std.proofs.Common.{◌≡◌, ◌≢◌, ℕ, Bool, true, false, nat_le, ◌==◌, List, ◌∷◌, map, inl, inr, refl, arith, ap, sym, ◌∙◌, subst, Option, Some, None}
 use Rattle.std.proofs.lemmas.Bool.Decides.{nat_tests}
-use Rattle.eager_model.specs.Types.{Class, Op, Request, Reply, Want}
+use Rattle.eager_model.specs.Types.{Class, Op, Reply, Want}
 use Rattle.op_model.specs.Operations.{Words, is_load}
 use Rattle.op_model.specs.Messages.{Content, Get, GetX, Inv, Wb, Rpl, Put, PutX, Nak, InvAck}
 use Rattle.op_model.specs.Lines.{Absent, Copy, Room, LineShare, Outcome, is_empty, marked_load}
 use Rattle.op_model.specs.Tables.Home.{on_wb}
 use Rattle.op_model.specs.Tables.Remote.{on_inv, on_nak}
 use Rattle.line_invariant.specs.Line.{share_of}
-use Rattle.line_invariant.specs.Good.{Carrier, Answered, Resting, IsCarried, is_put}
+use Rattle.line_invariant.specs.Good.{Carrier, Resting, IsCarried, is_put}
 use Rattle.line_invariant.specs.Rows.{wanting, IsWantKept, EndsRight}
 use Rattle.line_invariant.proofs.Basics.{if-either}
 use Rattle.line_invariant.proofs.RemoteRows.{answered}

@@ -1,12 +1,11 @@
 -- What the first message of a lane tells of what is under way, while a line drains: no forward, and no answer to the home.
-use Rattle.std.proofs.Common.{◌≡◌, ◌≢◌, ◌⊎◌, ℕ, Bool, true, false, cond, ◌==◌, List, [], ◌∷◌, ◌++◌, inl, inr, refl, arith, ap, sym, ◌∙◌, Option}
+use Rattle.std.proofs.Common.{◌≡◌, ◌≢◌, ℕ, Bool, true, false, cond, ◌==◌, List, [], ◌∷◌, ◌++◌, refl, arith, ap, sym, ◌∙◌}
 use Rattle.std.proofs.lemmas.Bool.{ne_eqb}
 use Rattle.std.proofs.lemmas.Bool.Decides.{nat_tests}
-use Rattle.eager_model.specs.Types.{Request, Reply, Want}
-use Rattle.op_model.specs.Messages.{Content, Get, GetX, Inv, InvAck, Wb, Rpl}
-use Rattle.op_model.specs.Lines.{Copy}
+use Rattle.eager_model.specs.Types.{Request, Reply}
+use Rattle.op_model.specs.Messages.{Content, Get, GetX, Inv, InvAck}
 use Rattle.op_model.proofs.Plain.{eqb-self}
-use Rattle.line_invariant.specs.Good.{Status, Carrier, Resting, Asking, AskingX, Answered, Leaving, NotLeaving, Duty, NoDuty, Told, Acked, IsOnDuty, asked_role, Recalled, leaving_part, asking_part, told_part, reply_part, answer_part}
+use Rattle.line_invariant.specs.Good.{Carrier, Asking, AskingX, Answered, Leaving, NotLeaving, Duty, NoDuty, Told, Acked, IsOnDuty, asked_role, Recalled, leaving_part, asking_part, told_part, reply_part, answer_part}
 use Rattle.eager_model.specs.Line.{AgedLine}
 use Rattle.eager_model.specs.Good.{IsDraining, draining_role}
 

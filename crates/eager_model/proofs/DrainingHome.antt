@@ -1,11 +1,8 @@
 -- What has to be shown of a row at the home of a line that drains, so that it still drains. The words may come back to memory there.
 use Rattle.std.proofs.Common.{◌≡◌, ◌≢◌, ℕ, Bool, true, false, cond, ◌==◌, not, List, map, refl, arith, ap, sym, subst, ◌∙◌, inr}
-use Rattle.std.proofs.lemmas.Bool.Decides.{nat_tests}
 use Rattle.eager_model.specs.Types.{Class}
 use Rattle.op_model.specs.Nodes.{listed}
-use Rattle.op_model.specs.Operations.{Words}
 use Rattle.op_model.specs.Lines.{Outcome, Header, is_empty}
-use Rattle.op_model.specs.Events.Step.{put_at}
 use Rattle.line_invariant.specs.Line.{Lanes, words_after, answered_after, sent}
 use Rattle.line_invariant.specs.Good.{Status, Clean, IsGoodNode, IsGoodHome, is_put, expected}
 use Rattle.op_model.proofs.Plain.{eqb-self}

@@ -1,7 +1,7 @@
 -- A copy leaves a cache while its line drains, P8 to P11.
-use Rattle.std.proofs.Common.{◌≡◌, ◌≢◌, ℕ, Bool, true, false, cond, ◌==◌, ◌&&◌, List, [], ◌∷◌, refl, arith, ap, sym, ◌∙◌, subst, inl, inr, Result, Ok, Option}
+use Rattle.std.proofs.Common.{◌≡◌, ◌≢◌, ℕ, Bool, true, false, cond, ◌==◌, ◌&&◌, List, [], refl, arith, sym, ◌∙◌, subst, inl, Result, Ok}
 use Rattle.std.proofs.lemmas.Bool.Decides.{nat_tests}
-use Rattle.eager_model.specs.Types.{Cause, Want}
+use Rattle.eager_model.specs.Types.{Cause}
 use Rattle.line_invariant.specs.Types.{EvictKind}
 use Rattle.op_model.specs.declared.events.EvictKind.TheVariants as way
 use Rattle.op_model.specs.Nodes.{listed}
@@ -10,17 +10,16 @@ use Rattle.op_model.specs.Lines.{Copy, Absent, Shared, Exclusive, LineShare, Out
 use Rattle.op_model.specs.Tables.Processor.{fits, evict, leave_remote, leave_home}
 use Rattle.op_model.proofs.Plain.{err-ok, eqb-self}
 use Rattle.line_invariant.specs.Line.{share_of, addressed}
-use Rattle.line_invariant.specs.Good.{Status, Resting, Leaving, NotLeaving, WritesBack, Hints, IsGoodNode, is_put, leaving_part}
+use Rattle.line_invariant.specs.Good.{Resting, Leaving, NotLeaving, WritesBack, Hints, IsGoodNode, leaving_part}
 use Rattle.eager_model.specs.Types.{Request, Reply}
 use Rattle.line_invariant.proofs.Basics.{if-either}
 use Rattle.line_invariant.proofs.RemoteLanes.{lanes-leave}
 use Rattle.line_invariant.proofs.HomeLanes.{lanes-quiet}
 use Rattle.line_invariant.proofs.LocalNodes.{node-leave, leaving_by}
 use Rattle.line_invariant.proofs.Marks.{keep}
-use Rattle.std.proofs.lemmas.Bool.{ne_eqb}
 use Rattle.eager_model.specs.Ages.{LineAges, with_copy, ages_left}
 use Rattle.eager_model.specs.Line.{AgedLine, ages_of, aged_row}
-use Rattle.eager_model.specs.Good.{IsEagerGood, IsDraining, IsHomeCopy, IsAgeIn, has_words, draining_role}
+use Rattle.eager_model.specs.Good.{IsEagerGood, IsDraining, draining_role}
 use Rattle.eager_model.proofs.Quiet.{words-same}
 use Rattle.eager_model.proofs.SentAges.{AreSentAges, given_age, none-sent, one-sent}
 use Rattle.eager_model.proofs.DrainingRows.{IsRowAway, away-good}

@@ -1,5 +1,5 @@
 -- Each message of a line that drains meets a row, and what that row does.
-use Rattle.std.proofs.Common.{◌≡◌, ◌≢◌, ℕ, Bool, true, false, cond, ◌==◌, ◌&&◌, not, List, ◌∷◌, refl, arith, ap, sym, subst}
+use Rattle.std.proofs.Common.{◌≡◌, ◌≢◌, ℕ, Bool, true, false, cond, ◌==◌, List, ap, sym, subst}
 use Rattle.std.proofs.lemmas.Bool.{ne_eqb}
 use Rattle.eager_model.specs.Types.{Class, Op}
 use Rattle.op_model.specs.Operations.{Words, is_load, after_op}
@@ -14,7 +14,7 @@ use Rattle.op_model.proofs.Plain.{eqb-self}
 use Rattle.std.specs.Prelude.{None}
 use Rattle.line_invariant.specs.Line.{share_of, taken}
 use Rattle.line_invariant.specs.Rows.{wanting}
-use Rattle.eager_model.specs.Rows.{Drain, asks_shared, on_getx, meets, row_of, on_message}
+use Rattle.eager_model.specs.Rows.{Drain, on_getx, meets, row_of, on_message}
 use Rattle.eager_model.specs.Ages.{LineAges, ages_taken, with_copy}
 use Rattle.eager_model.specs.Line.{AgedLine, ages_of, aged_row, after_take, taken_age}
 use Rattle.eager_model.specs.Good.{IsEagerGood}

@@ -1,18 +1,18 @@
 -- What has to be shown of a row of a line that drains, so that it still drains: at the home, where words may come back, and at another node.
-use Rattle.std.proofs.Common.{◌≡◌, ◌≢◌, ◌⊎◌, ℕ, ◌≤◌, ◌<◌, Bool, true, false, cond, nat_lt, ◌==◌, ◌&&◌, not, List, map, refl, arith, ap, sym, subst, ◌∙◌, inl, inr, Option}
+use Rattle.std.proofs.Common.{◌≡◌, ◌≢◌, ◌⊎◌, ℕ, ◌≤◌, ◌<◌, Bool, true, false, cond, nat_lt, ◌==◌, List, map, refl, arith, ap, sym, subst, ◌∙◌, inl, inr, Option}
 use Rattle.std.proofs.lemmas.Bool.Decides.{nat_tests}
 use Rattle.eager_model.specs.Types.{Class, Want}
-use Rattle.op_model.specs.Nodes.{Nodes, listed}
+use Rattle.op_model.specs.Nodes.{listed}
 use Rattle.op_model.specs.Operations.{Words}
 use Rattle.op_model.specs.Lines.{Copy, Outcome, Header, Service, NoService, Own, For, is_empty}
 use Rattle.op_model.specs.Events.Step.{put_at}
 use Rattle.line_invariant.specs.Line.{Lanes, words_after, answered_after, sent}
-use Rattle.line_invariant.specs.Good.{Status, Role, Recalled, NoDuty, Clean, asked_role, IsGoodNode, IsGoodHome, is_put, expected}
+use Rattle.line_invariant.specs.Good.{Status, IsGoodNode, is_put, expected}
 use Rattle.op_model.proofs.Plain.{eqb-self}
 use Rattle.std.proofs.lemmas.Bool.{ne_eqb}
 use Rattle.eager_model.specs.Ages.{LineAges, served_age}
 use Rattle.eager_model.specs.Line.{AgedLine, last_after}
-use Rattle.eager_model.specs.Good.{IsEagerGood, IsDraining, IsDrainingHeader, IsHomeCopy, IsAgeIn, has_words, draining_role, message_age}
+use Rattle.eager_model.specs.Good.{IsEagerGood, IsDraining, IsDrainingHeader, IsAgeIn, has_words, draining_role, message_age}
 use Rattle.eager_model.proofs.Quiet.{words-same, at-top}
 use Rattle.eager_model.proofs.Kept.{any-words}
 use Rattle.eager_model.proofs.SentAges.{AreSentAges, row_done, given_age, done-top, done-ages}

@@ -2,13 +2,11 @@
 use Rattle.std.proofs.Common.{◌≡◌, ◌≢◌, ℕ, ◌≤◌, Bool, true, false, cond, nat_le, ◌==◌, List, ◌∷◌, map, refl, arith, ap, sym, ◌∙◌, subst}
 use Rattle.std.proofs.lemmas.Bool.Decides.{nat_tests}
 use Rattle.eager_model.specs.Types.{Class, Request, Reply}
-use Rattle.op_model.specs.Operations.{is_load}
 use Rattle.op_model.specs.Messages.{Content, Get, GetX, Inv, Wb, Rpl, Put, PutX, Nak, InvAck}
 use Rattle.op_model.specs.Lines.{Room, LineShare, Outcome, Service, NoService, is_empty}
 use Rattle.op_model.specs.Tables.Home.{on_wb}
 use Rattle.op_model.specs.Tables.Remote.{on_inv, on_nak}
 use Rattle.line_invariant.specs.Line.{share_of, taken}
-use Rattle.line_invariant.specs.Good.{is_put}
 use Rattle.line_invariant.specs.Rows.{IsServedFor}
 use Rattle.line_invariant.proofs.Basics.{if-either}
 use Rattle.line_invariant.proofs.RemoteRows.{answered}
@@ -16,7 +14,7 @@ use Rattle.eager_model.specs.Rows.{meets, on_inv_ack, on_message}
 use Rattle.eager_model.specs.Ages.{LineAges, ages_taken, with_copy}
 use Rattle.eager_model.specs.Line.{AgedLine, ages_of, aged_row, after_take, row_taken, ages_after_take, taken_age}
 use Rattle.eager_model.specs.Good.{IsDraining, message_age}
-use Rattle.eager_model.specs.Served.{age_served, IsServedAt, IsServedOn}
+use Rattle.eager_model.specs.Served.{age_served, IsServedAt}
 use Rattle.eager_model.proofs.Acknowledgements as acked
 use Rattle.eager_model.proofs.Acks.{does-ack}
 use Rattle.eager_model.proofs.Hints.{does-rpl}
@@ -24,7 +22,7 @@ use Rattle.eager_model.proofs.DrainingRows.{away-top}
 use Rattle.eager_model.proofs.DrainingFronts.{asks-apart, owes-apart, answers}
 use Rattle.eager_model.proofs.DrainingMeets.{does-get, does-getx, does-wb, does-inv, does-put, does-nak}
 use Rattle.eager_model.proofs.DrainingAtHome.{is_dirty, not_local}
-use Rattle.eager_model.proofs.DrainingAway.{wants, held-words, given-age, putx-met, is-row, putx-row, next, row, putx-words}
+use Rattle.eager_model.proofs.DrainingAway.{wants, given-age, putx-met, is-row, putx-row, row, putx-words}
 use Rattle.eager_model.proofs.DrainingTakes.{IsComing, get_comes, getx_comes, wb_comes, rpl_comes, ack_comes, inv_comes, put_comes, putx_comes, nak_comes, coming}
 
 abbrev Quiet : Outcome → Type 0

@@ -1,21 +1,19 @@
 -- A message that the home of a draining line takes, where its row leaves the home's copy and its list, and changes what is under way at the sender alone.
-use Rattle.std.proofs.Common.{◌≡◌, ◌≢◌, ℕ, Bool, true, false, cond, ◌==◌, List, ◌∷◌, refl, arith, ap, sym, subst, ◌∙◌, inl, Option}
+use Rattle.std.proofs.Common.{◌≡◌, ◌≢◌, ℕ, Bool, true, false, cond, ◌==◌, List, ◌∷◌, refl, arith, ap, sym, ◌∙◌, inl}
 use Rattle.std.proofs.lemmas.Bool.Decides.{nat_tests}
-use Rattle.eager_model.specs.Types.{Class, Want}
+use Rattle.eager_model.specs.Types.{Class}
 use Rattle.op_model.specs.Nodes.{listed}
-use Rattle.op_model.specs.Operations.{Words}
 use Rattle.op_model.specs.Messages.{Content}
-use Rattle.op_model.specs.Lines.{Copy, Header, LineShare, Outcome, sending, is_empty}
+use Rattle.op_model.specs.Lines.{Header, Outcome, sending, is_empty}
 use Rattle.op_model.specs.Events.Step.{put_at}
-use Rattle.line_invariant.specs.Line.{Lanes, share_of, taken, sent}
-use Rattle.line_invariant.specs.Good.{Status, Resting, IsGoodNode, is_put, expected}
+use Rattle.line_invariant.specs.Line.{share_of, taken, sent}
+use Rattle.line_invariant.specs.Good.{Status, IsGoodNode, is_put, expected}
 use Rattle.std.proofs.lemmas.Bool.{ne_eqb}
 use Rattle.line_invariant.proofs.Marks.{keep}
 use Rattle.eager_model.specs.Ages.{LineAges}
-use Rattle.eager_model.specs.Line.{AgedLine, taken_age, aged_row}
+use Rattle.eager_model.specs.Line.{AgedLine, taken_age}
 use Rattle.eager_model.specs.Good.{IsEagerGood, IsDraining, IsDrainingHeader, IsAgeIn, has_words, draining_role}
 use Rattle.eager_model.proofs.SentAges.{AreSentAges, kept-copy, row_done, given_age, taken-ages}
-use Rattle.eager_model.proofs.DrainingRows.{at-each}
 use Rattle.eager_model.proofs.DrainingHome.{IsRowHome, home-good}
 
 module _ (home : ℕ) (line : AgedLine) (newest : line.words_at line.top ≡ line.line.words) (good : IsDraining home line) (p : ℕ) (apart : p ≢ home)

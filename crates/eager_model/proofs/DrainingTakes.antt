@@ -1,5 +1,5 @@
 -- Each message that is taken while a line drains: it meets a row, and the line stays good.
-use Rattle.std.proofs.Common.{◌≡◌, ◌≢◌, ℕ, Bool, true, false, ◌==◌, List, [], ◌∷◌, ◌++◌, map, refl, arith, ap, sym, ◌∙◌, subst, inr}
+use Rattle.std.proofs.Common.{◌≡◌, ◌≢◌, ℕ, Bool, true, false, ◌==◌, List, ◌∷◌, ◌++◌, map, refl, arith, ap, sym, ◌∙◌, subst, inr}
 use Rattle.std.proofs.lemmas.Bool.Decides.{nat_tests}
 use Rattle.eager_model.specs.Types.{Class, Request, Reply}
 use Rattle.line_invariant.specs.Types.{NakCause}

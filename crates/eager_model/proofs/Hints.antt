@@ -1,23 +1,19 @@
 -- A hint that comes while a line drains changes nothing at the home, H27.
-use Rattle.std.proofs.Common.{◌≡◌, ◌≢◌, ℕ, Bool, true, false, cond, ◌==◌, List, ◌∷◌, refl, arith, sym, ◌∙◌, subst, inr, Option}
+use Rattle.std.proofs.Common.{◌≡◌, ◌≢◌, ℕ, Bool, true, List, ◌∷◌, refl, arith, sym, ◌∙◌, Option}
 use Rattle.std.proofs.lemmas.Bool.Decides.{nat_tests}
 use Rattle.eager_model.specs.Types.{Class, Request, Reply, Want}
-use Rattle.op_model.specs.Nodes.{listed}
 use Rattle.op_model.specs.Operations.{Words}
 use Rattle.op_model.specs.Messages.{Content, Rpl}
-use Rattle.op_model.specs.Lines.{Copy, Room, Outcome, LineShare, sending, no_message, is_empty}
+use Rattle.op_model.specs.Lines.{Copy, Room, LineShare, sending, no_message, is_empty}
 use Rattle.op_model.specs.Tables.Home.{on_rpl}
 use Rattle.op_model.specs.Tables.Remote as delayed
 use Rattle.op_model.specs.Events.Step.{put_at}
 use Rattle.line_invariant.specs.Line.{Lanes, share_of, sent, taken}
-use Rattle.line_invariant.specs.Good.{Status, Hints, NotLeaving, Role, IsGoodNode, asking_part, expected, is_put}
+use Rattle.line_invariant.specs.Good.{Status, Hints, NotLeaving, Role, IsGoodNode, asking_part, expected}
 use Rattle.op_model.proofs.Plain.{eqb-self}
-use Rattle.std.proofs.lemmas.Bool.{ne_eqb}
 use Rattle.line_invariant.proofs.Fronts.{rpl-first}
-use Rattle.line_invariant.proofs.Marks.{keep}
 use Rattle.eager_model.specs.Rows.{Drain, meets, row_of, on_message}
-use Rattle.eager_model.specs.Ages.{with_copy}
-use Rattle.eager_model.specs.Line.{AgedLine, ages_of, aged_row, after_take, taken_age}
+use Rattle.eager_model.specs.Line.{AgedLine, ages_of, after_take}
 use Rattle.eager_model.specs.Good.{IsEagerGood, IsDraining, has_words, draining_role}
 use Rattle.eager_model.proofs.SentAges.{none-sent, given_age}
 use Rattle.eager_model.proofs.DrainingTaken.{IsTakenHome, taken-home}

@@ -1,10 +1,10 @@
 -- The ages after a row of the home that takes a message without words, sends nothing, serves nothing and leaves the home's copy.
-use Rattle.std.proofs.Common.{◌≡◌, ◌≢◌, ℕ, ◌≤◌, Bool, true, false, cond, nat_lt, ◌==◌, ◌&&◌, ◌++◌, List, [], ◌∷◌, map, refl, arith, ap, sym, subst, ◌∙◌}
+use Rattle.std.proofs.Common.{◌≡◌, ◌≢◌, ℕ, ◌≤◌, Bool, true, false, cond, nat_lt, ◌==◌, List, ◌∷◌, refl, arith, ap, sym, ◌∙◌}
 use Rattle.std.proofs.lemmas.Bool.Decides.{nat_tests}
 use Rattle.eager_model.specs.Types.{Class}
 use Rattle.op_model.specs.Nodes.{listed}
 use Rattle.op_model.specs.Operations.{Words}
-use Rattle.op_model.specs.Messages.{Content, same_class}
+use Rattle.op_model.specs.Messages.{Content}
 use Rattle.op_model.specs.Lines.{Header, sending, no_message, is_empty}
 use Rattle.line_invariant.specs.Line.{share_of, taken}
 use Rattle.line_invariant.specs.Good.{Status, Role, IsGoodNode, is_put}

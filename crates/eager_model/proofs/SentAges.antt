@@ -6,9 +6,8 @@ use Rattle.op_model.specs.Messages.{Content, same_class}
 use Rattle.op_model.specs.Lines.{Outcome, no_message, one_to, is_empty}
 use Rattle.line_invariant.specs.Line.{Lanes, share_of, addressed, taken}
 use Rattle.line_invariant.specs.Good.{Status, Role, is_put}
-use Rattle.std.proofs.lemmas.Bool.{ne_eqb}
-use Rattle.eager_model.specs.Ages.{LineAges, sent_age, age_given, served_age}
-use Rattle.eager_model.specs.Line.{AgedLine, ages_of, aged_row, greater, begun_age, last_after, taken_age}
+use Rattle.eager_model.specs.Ages.{LineAges, sent_age, age_given}
+use Rattle.eager_model.specs.Line.{AgedLine, ages_of, aged_row, greater, begun_age, taken_age}
 use Rattle.eager_model.specs.Good.{AreAges, IsAgeIn, has_words, message_age}
 use Rattle.eager_model.proofs.Kept.{map-append}
 
