@@ -5,15 +5,20 @@ ghost use Rattle.eager_model.specs.Types.{Class, Op};
 ghost use Rattle.line_invariant.specs.Types.{EvictKind};
 ghost use Rattle.op_model.specs.Operations.{Words, is_load};
 ghost use Rattle.op_model.specs.Messages.{Content, Put};
-ghost use Rattle.op_model.specs.Lines.{Absent, LineShare, Room, NoService, Outcome, is_empty};
+ghost use Rattle.op_model.specs.Lines.{Absent, LineShare, Room, NoService, Outcome, is_empty, is_pending};
 ghost use Rattle.op_model.specs.Tables.Processor.{serves, evict};
 ghost use Rattle.line_invariant.specs.Line.{share_of};
 ghost use Rattle.line_invariant.specs.Rows.{wanting, IsServedFor, IsOwnWant, IsWantKept, EndsRight};
-ghost use Rattle.eager_model.specs.Rows.{begin_op, meets};
+ghost use Rattle.eager_model.specs.Rows.{begin_op, meets, write_and_drain, writes_shared};
 ghost use Rattle.eager_model.specs.Line.{AgedLine, after_take, row_taken, ages_after_take};
-ghost use Rattle.eager_model.specs.Processor.{hit_row, ages_after_hit, after_hit, after_begin, after_leave};
+ghost use Rattle.eager_model.specs.Processor.{hit_row, ages_after_hit, after_hit, ages_after_begin, after_begin, after_leave};
 ghost use Rattle.eager_model.specs.Good.{IsEagerGood, IsDraining};
 ghost use Rattle.eager_model.specs.Served.{age_served, IsServedAt};
+
+/// E1, with which the home begins to drain a line, serves its write on the newest words, at the age that it begins.
+pub fn every_draining_write()
+    ensures aged { (home : ℕ) (line : AgedLine) (op : Op) → IsEagerGood home line → is_pending line.line.header ≡ false → writes_shared op line.line.header ≡ true → IsServedAt line (after_begin home home (write_and_drain home op (share_of line.line home)) line).top home (age_served home home (write_and_drain home op (share_of line.line home)) (ages_after_begin home (write_and_drain home op (share_of line.line home)) line) line) (write_and_drain home op (share_of line.line home)).served }
+{}
 
 /// While a line drains, the message at the front of a lane meets a row at its taker.
 pub fn every_draining_front()
@@ -36,7 +41,7 @@ pub fn every_draining_hit()
     ensures aged { (home : ℕ) (line : AgedLine) (node : ℕ) (op : Op) → line.words_at line.top ≡ line.line.words → IsDraining home line → serves op (line.line.copy node) ≡ true → IsServedAt line (after_hit home node op line).top node (age_served home node (hit_row node op line) (ages_after_hit node op line) line) (hit_row node op line).served }
 {}
 
-/// While a line drains, beginning an operation keeps it good. It is left begun, and nothing is served.
+/// While a line drains, beginning an operation keeps it good. Nothing is served, and no other operation is left begun.
 pub fn every_draining_beginning()
     ensures kept { (home : ℕ) (line : AgedLine) (node : ℕ) (op : Op) (room : Room) (outcome : Outcome) → line.words_at line.top ≡ line.line.words → IsDraining home line → line.line.want node ≡ None → begin_op node home room op (share_of line.line node) ≡ Ok outcome → IsEagerGood home (after_begin home node outcome line) }
     ensures served { (home : ℕ) (line : AgedLine) (node : ℕ) (op : Op) (room : Room) (outcome : Outcome) → line.words_at line.top ≡ line.line.words → IsDraining home line → line.line.want node ≡ None → begin_op node home room op (share_of line.line node) ≡ Ok outcome → outcome.served ≡ NoService }
