@@ -63,7 +63,10 @@ module _ (home : ℕ) (line : AgedLine) (newest : line.words_at line.top ≡ lin
         has = good.has;
         lanes = lanes-ack home p line.line.lane good.status apart good.lanes rest comes.2 comes.1 comes.0;
         header = rw on (record {
-          waits = header.waits; dirty = header.dirty; memory = header.memory; some = grind (arith, nat_tests);
+          waits = header.waits;
+          dirty = header.dirty;
+          memory = header.memory;
+          some = grind (arith, nat_tests);
           due = ap (λ n. n - 1) header.due ∙ sym (counted ∙ simp from.1);
           granted = (let e = header.granted in grind (arith, nat_tests, listings));
           own = header.own;

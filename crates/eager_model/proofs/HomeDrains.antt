@@ -24,7 +24,7 @@ module _ (home : ℕ) (line : AgedLine) (newest : line.words_at line.top ≡ lin
   phase : settled.good.phase ≡ Clean
   phase = clean-phase home settled.good.phase line.line.words line.line.header (line.line.copy home) settled.good.header idle clean
 
-  header : IsGoodHeader home Clean line.line.words line.line.header (line.line.copy home)
+  pub header : IsGoodHeader home Clean line.line.words line.line.header (line.line.copy home)
   header = rw phase at settled.good.header
 
   at_home : IsGoodHome home Clean line.line.words (line.line.copy home) (line.line.want home) (settled.good.status home)
@@ -33,7 +33,7 @@ module _ (home : ℕ) (line : AgedLine) (newest : line.words_at line.top ≡ lin
   node : (n : ℕ) → n ≢ home → IsGoodNode (MayShare NoDuty) line.line.words (listed line.line.header.list n) (line.line.copy n) (line.line.want n) (settled.good.status n)
   node n far = rw phase at (settled.good.nodes n far)
 
-  memory_top : line.memory_age ≡ line.top
+  pub memory_top : line.memory_age ≡ line.top
   memory_top = settled.ages.memory clean
 
   abbrev next : AgedLine
@@ -43,7 +43,7 @@ module _ (home : ℕ) (line : AgedLine) (newest : line.words_at line.top ≡ lin
   abbrev has : ℕ → ℕ
   has n = cond (n == home) (suc line.top) (settled.has n)
 
-  next-top : next.top ≡ suc line.top
+  pub next-top : next.top ≡ suc line.top
   next-top = top (in_order line.line.header.list) _
     where
       top : (xs : List ℕ) (given : ℕ) → greater line.top (greater (suc line.memory_age) (Rattle.eager_model.specs.Line.begun_age given (to_each xs))) ≡ suc line.top
