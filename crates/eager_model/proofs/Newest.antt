@@ -81,7 +81,7 @@ newest-role home (HandedOn r o h) words header copy node top good settled = go (
     go false false duty = tt
 
 module _ (home : ℕ) (line : AgedLine) (good : IsGood home line.line) where
-  carried : (n : ℕ) → IsCarried (line.line.want n) (line.line.copy n) (good.status n).carrier
+  pub carried : (n : ℕ) → IsCarried (line.line.want n) (line.line.copy n) (good.status n).carrier
   carried n = go (n == home) refl
     where
       go : (b : Bool) → (n == home) ≡ b → IsCarried (line.line.want n) (line.line.copy n) (good.status n).carrier
