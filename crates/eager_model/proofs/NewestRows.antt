@@ -68,7 +68,7 @@ module _ (home me : ℕ) (line : AgedLine) (row : Outcome) (ages : LineAges) (go
   next_line = aged_row home me row ages line
 
   -- any row, after which the greatest age is this one, and the last operation of each node has this age
-  newest-row : (top : ℕ) (last : ℕ → ℕ) → next_line.top ≡ top → ((node : ℕ) → next_line.last node ≡ last node) →
+  pub newest-row : (top : ℕ) (last : ℕ → ℕ) → next_line.top ≡ top → ((node : ℕ) → next_line.last node ≡ last node) →
       ages.copy ≡ cond (is_empty row.share.copy) 0 top →
       ((node : ℕ) → (node == me) ≡ false → is_empty (line.line.copy node) ≡ false → top ≡ line.top) →
       ((a b : ℕ) (class : Class) → map (newest_age line.top (line.last b)) (line.line.lane a b class) ≡ map (newest_age top (last b)) (line.line.lane a b class)) →
