@@ -67,7 +67,7 @@ module _ (home : ℕ) (line : AgedLine) (settled : IsSettled home line) (from to
       (with_copy (without_shared (line.line.copy to)) (ages_of line to)) (newest-taken home line from to class Inv rest front age ages first settled.ages)
       same-waits (copy-same (without_shared (line.line.copy to)) (kept-full (line.line.copy to))) (refl, tt) same-memory (λ d e. marked-counts (line.line.want to) (to == home))
 
-  row-gone : (content : Content) → line.line.lane from to class ≡ content ∷ rest → (r : ℕ) →
+  pub row-gone : (content : Content) → line.line.lane from to class ≡ content ∷ rest → (r : ℕ) →
       IsNewRow home to (left_line from to class rest ages line) (gone home r (share_of line.line to)) (with_copy (line.line.copy to) (ages_of line to))
   row-gone content front r =
       newest-quiet home to (left_line from to class rest ages line) (share_of line.line to) ((r, Nak Gone) ∷ (home, Nakc) ∷ []) false
