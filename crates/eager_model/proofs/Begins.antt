@@ -2,7 +2,7 @@
 use Rattle.std.proofs.Common.{◌≡◌, ◌≢◌, ℕ, suc, ◌≤◌, Bool, true, false, cond, ◌==◌, ◌&&◌, not, List, [], ◌∷◌, map, refl, arith, ap, sym, ◌∙◌, subst}
 use Rattle.std.proofs.lemmas.Bool.Decides.{nat_tests}
 use Rattle.eager_model.specs.Types.{Class, Op}
-use Rattle.op_model.specs.Operations.{Words}
+use Rattle.op_model.specs.Operations.{Words, is_load}
 use Rattle.op_model.specs.Messages.{Content}
 use Rattle.op_model.specs.Lines.{LineShare, NoService, Own, is_empty}
 use Rattle.op_model.specs.Tables.Remote.{is_invalidate}
@@ -53,19 +53,19 @@ module _ (home me : ℕ) (line : AgedLine) (share : LineShare) (ages : LineAges)
           none-counts node answered (subst (λ w. counts home node w ≡ true) (wants ∙ ap line.line.want (sym is)) counted)
 
   -- the home writes
-  pub newest-written : (op : Op) (on : Words) →
+  pub newest-written : (op : Op) (on : Words) → is_load op.kind ≡ false →
       is_invalidate (cond (me == home) share.header line.line.header).wait ≡ false →
       is_empty share.copy ≡ false → ages.copy ≡ suc line.top →
       ((cond (me == home) share.header line.line.header).dirty ≡ false → ⊥) →
       ((a : ℕ) (class : Class) (l : ℕ) → map (newest_age line.top (line.last me)) (line.line.lane a me class) ≡ map (newest_age line.top l) (line.line.lane a me class)) →
       IsNewRow home me line (record { share = share; sends = []; served = Own op on; done = true }) ages
-  newest-written op on waits full copy dirty free =
+  newest-written op on write waits full copy dirty free =
       record {
         waits = waits;
         newest = newest-row home me line (record { share = share; sends = []; served = Own op on; done = true }) ages good (suc line.top) last top
             (λ node. refl) (copy ∙ ap (λ c. cond c 0 (suc line.top)) (sym full)) no-copy (λ a b class. lanes a b class (b == me) refl) tt (λ e. absurd (dirty e)) past
             (λ node e counted. served node (node == me) e counted);
-        at_top = copy ∙ sym top;
+        at_top = (copy ∙ sym top, λ load. absurd (grind arith));
       }
     where
       last : ℕ → ℕ

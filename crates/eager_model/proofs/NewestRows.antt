@@ -2,7 +2,7 @@
 use Rattle.std.proofs.Common.{◌≡◌, ◌≢◌, ℕ, suc, ◌≤◌, Bool, true, false, cond, ◌==◌, ◌&&◌, ◌||◌, not, ◌++◌, List, [], ◌∷◌, map, refl, arith, ap, sym, ◌∙◌, subst, Option}
 use Rattle.std.proofs.lemmas.Bool.Decides.{nat_tests}
 use Rattle.eager_model.specs.Types.{Class, Op, Want}
-use Rattle.op_model.specs.Operations.{Words}
+use Rattle.op_model.specs.Operations.{Words, is_load}
 use Rattle.op_model.specs.Messages.{Content, Get, GetX, FwdGet, FwdGetX, Inv, Wb, Rpl, Put, PutX, Nak, InvAck, ShWb, FAck, Nakc, class_of, same_class}
 use Rattle.op_model.specs.Lines.{Header, LineShare, Service, NoService, Own, For, Outcome, no_message, is_empty}
 use Rattle.op_model.specs.Tables.Remote.{is_invalidate}
@@ -48,17 +48,17 @@ copy-within : (c : Bool) (copy top : ℕ) → copy ≡ cond c 0 top → copy ≤
 copy-within true copy top e = grind arith
 copy-within false copy top e = grind arith
 
--- the age of an operation is the newest
-abbrev pub IsAtTop : Service → ℕ → ℕ → Type 0
-IsAtTop NoService age top = Unit {0}
-IsAtTop (Own op on) age top = age ≡ top
-IsAtTop (For node on) age top = age ≡ top
+-- an operation has the greatest age, which a load doesn't raise
+abbrev pub IsAtTop : ℕ → ℕ → Service → ℕ → Type 0
+IsAtTop top next NoService age = Unit {0}
+IsAtTop top next (Own op on) age = (age ≡ next) × (is_load op.kind ≡ true → age ≡ top)
+IsAtTop top next (For node on) age = age ≡ top
 
 -- what is shown of a row of a line that doesn't drain
 pub record IsNewRow (home me : ℕ) (line : AgedLine) (row : Outcome) (ages : LineAges) : Type 0 where
   pub waits : is_invalidate (aged_row home me row ages line).line.header.wait ≡ false
   pub newest : AreNewest home (aged_row home me row ages line)
-  pub at_top : IsAtTop row.served (served_age (age_given (me == home) (share_of line.line me) (ages_of line me)) ages.copy row.served) (aged_row home me row ages line).top
+  pub at_top : IsAtTop line.top (aged_row home me row ages line).top row.served (served_age (age_given (me == home) (share_of line.line me) (ages_of line me)) ages.copy row.served)
 
 module _ (home me : ℕ) (line : AgedLine) (row : Outcome) (ages : LineAges) (good : AreNewest home line) where
   abbrev pub given_by : ℕ
@@ -150,7 +150,7 @@ module _ (home me : ℕ) (line : AgedLine) (share : LineShare) (sends : List (�
         newest = newest-row home me line (record { share = share; sends = sends; served = For x on; done = done }) ages good line.top last kept
             (λ node. refl) copy (λ node e f. refl) (λ a b class. lanes a b class (b == x) refl) sent memory past
             (λ node e counted. served node (node == me) refl (node == x) done waiting e counted);
-        at_top = given ∙ sym kept;
+        at_top = given;
       }
     where
       last : ℕ → ℕ
@@ -194,7 +194,7 @@ module _ (home me : ℕ) (line : AgedLine) (share : LineShare) (sends : List (�
         newest = newest-row home me line (record { share = share; sends = sends; served = Own op on; done = done }) ages good line.top last kept
             (λ node. refl) (copy ∙ ap (λ c. cond c 0 line.top) (sym full)) (λ node e f. refl) (λ a b class. lanes a b class (b == me) refl) (sent sends none) memory past
             (λ node e counted. served node (node == me) done ends e counted);
-        at_top = copy ∙ sym kept;
+        at_top = (copy ∙ sym kept, λ load. copy);
       }
     where
       last : ℕ → ℕ
