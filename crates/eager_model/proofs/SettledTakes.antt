@@ -4,8 +4,9 @@ use Rattle.std.proofs.lemmas.Bool.Decides.{nat_tests}
 use Rattle.eager_model.specs.Types.{Class, Request, Reply}
 use Rattle.op_model.specs.Nodes.{listed}
 use Rattle.op_model.specs.Messages.{Content, Get, GetX, FwdGet, FwdGetX, Inv, Wb, Rpl, Put, PutX, Nak, InvAck, ShWb, FAck, Nakc}
-use Rattle.op_model.specs.Lines.{LineShare, Room, Outcome, is_empty, is_exclusive}
-use Rattle.op_model.specs.Tables.Home.{on_get}
+use Rattle.op_model.specs.Lines.{LineShare, Room, Outcome, Service, NoService, Own, For, is_empty, is_exclusive, is_pending}
+use Rattle.op_model.specs.Tables.Home.{no_other}
+use Rattle.op_model.specs.Tables.Home as delayed_home
 use Rattle.op_model.specs.Tables.Remote.{on_fwd_get, is_invalidate, waits_load, waits_write}
 use Rattle.op_model.specs.Tables.Remote as delayed
 use Rattle.op_model.proofs.Plain.{eqb-self}
@@ -18,10 +19,12 @@ use Rattle.line_invariant.proofs.ForwardNodes.{asked-phase, node-holds}
 use Rattle.line_invariant.proofs.RemoteRows.{answered}
 use Rattle.line_invariant.proofs.MeetsRow.{meets-take}
 use Rattle.line_invariant.proofs.Served.{served-take}
-use Rattle.eager_model.specs.Rows.{asks_shared, meets, on_message}
+use Rattle.eager_model.specs.Rows.{asks_shared, meets, row_of, on_getx, on_message}
 use Rattle.eager_model.specs.Ages.{ages_taken, with_copy}
 use Rattle.eager_model.specs.Line.{AgedLine, ages_of, ages_after_take, row_taken, after_take}
+use Rattle.eager_model.specs.Served.{IsServedAt, age_taken}
 use Rattle.eager_model.specs.Good.{IsSettled, IsEagerGood}
+use Rattle.eager_model.proofs.ServedAt.{above, for-well, served-at}
 use Rattle.eager_model.proofs.Quiet.{at-top}
 use Rattle.eager_model.proofs.Taken.{left_line}
 use Rattle.eager_model.proofs.Same.{same-meets, same-message, good-without-ages}
@@ -39,6 +42,22 @@ is_getx _ = false
 
 getx-only : (content : Content) → is_getx content ≡ true → content ≡ GetX
 getx-only content e = grind arith
+
+-- a GetX serves nothing
+getx-serves : (to home from : ℕ) (alone : Bool) (room : Room) (share : LineShare) → (on_message to home from alone room GetX share).served ≡ NoService
+unfolding on_message row_of on_getx delayed_home.on_getx
+getx-serves to home from alone room share =
+    if-either Quiet (meets to home from alone GetX share) _ _ (λ _.
+    (if-either Quiet (asks_shared room from share.header) _ _ (λ _. refl) (λ _.
+    (if-either Quiet (is_pending share.header) _ _ (λ _. refl) (λ _.
+    (if-either Quiet (share.header.dirty && share.header.local) _ _ (λ _. refl) (λ _.
+    (if-either Quiet (share.header.dirty && room.full) _ _ (λ _. refl) (λ _.
+    (if-either Quiet share.header.dirty _ _ (λ _. refl) (λ _.
+    (if-either Quiet (no_other from share.header.list) _ _ (λ _. refl) (λ _.
+    (if-either Quiet room.full _ _ (λ _. refl) (λ _. refl))))))))))))))) (λ _. refl)
+  where
+    Quiet : Outcome → Type 0
+    Quiet o = o.served ≡ NoService
 
 module _ (home : ℕ) (line : AgedLine) (settled : IsSettled home line) (from to : ℕ) (class : Class) (rest : List Content) (room : Room) where
   -- the load that a forward serves wasn't served before
@@ -133,6 +152,16 @@ module _ (home : ℕ) (line : AgedLine) (settled : IsSettled home line) (from to
           does : on_message to home from (is_empty (line.line.copy to)) room content (share_of line.line to) ≡ delayed.row_of to home from room content (share_of line.line to)
           does = same-message to home from (is_empty (line.line.copy to)) room (share_of line.line to) settled.settled content other ∙ does-delayed content front
 
+      taken-served : (content ≡ GetX → asks_shared room from line.line.header ≡ false) → IsServedFor line.line.want line.line.answered to line.line.words (row_taken home from to content room line.line).served
+      taken-served other = subst (λ o. IsServedFor line.line.want line.line.answered to line.line.words o.served) (sym (same-message to home from (is_empty (line.line.copy to)) room (share_of line.line to) settled.settled content other)) (served-take home line.line settled.good from rest room to class content front)
+
+      -- what a message serves, where it doesn't make the line drain
+      pub served-stays : line.words_at line.top ≡ line.line.words → (content ≡ GetX → asks_shared room from line.line.header ≡ false) →
+          IsServedAt line to (after_take home from to class content rest age ages room line).top (row_taken home from to content room line.line).served (age_taken home from to content age room line)
+      served-stays newest other =
+          served-at line to newest settled.ages.past (after_take home from to class content rest age ages room line).top (above line.top _) (row_taken home from to content room line.line).served _
+          (for-well line.line.want line.line.answered to line.line.words (row_taken home from to content room line.line).served (taken-served other)) (taken-row other).at_top
+
       stays : (content ≡ GetX → asks_shared room from line.line.header ≡ false) → IsEagerGood home (after_take home from to class content rest age ages room line)
       stays other =
           let row = taken-row other in
@@ -169,3 +198,18 @@ module _ (home : ℕ) (line : AgedLine) (settled : IsSettled home line) (from to
           go x e false f = stays (λ is. f)
           go false e true f = stays (λ is. absurd (let no : true ≡ false = sym (ap is_getx is) ∙ e in grind arith))
           go true e true f = grants newest (getx-only content e) f
+
+      -- what any message serves
+      pub served-settled-take : line.words_at line.top ≡ line.line.words → IsServedAt line to (after_take home from to class content rest age ages room line).top (row_taken home from to content room line.line).served (age_taken home from to content age room line)
+      served-settled-take newest = go (is_getx content) refl
+        where
+          go : (x : Bool) → is_getx content ≡ x → IsServedAt line to (after_take home from to class content rest age ages room line).top (row_taken home from to content room line.line).served (age_taken home from to content age room line)
+          go false e = served-stays newest (λ is. absurd (let no : true ≡ false = sym (ap is_getx is) ∙ e in grind arith))
+          go true e =
+              let none : (row_taken home from to content room line.line).served ≡ NoService = rw (getx-only content e) (getx-serves to home from (is_empty (line.line.copy to)) room (share_of line.line to)) in
+              none-served (row_taken home from to content room line.line).served none
+            where
+              none-served : (service : Service) → service ≡ NoService → IsServedAt line to (after_take home from to class content rest age ages room line).top service (Rattle.eager_model.specs.Ages.served_age (Rattle.eager_model.specs.Ages.age_given (to == home) (share_of line.line to) (ages_of line to)) (ages_after_take home from to content age room line).copy service)
+              none-served NoService e = tt
+              none-served (Own op on) e = absurd (grind arith)
+              none-served (For n on) e = absurd (grind arith)
