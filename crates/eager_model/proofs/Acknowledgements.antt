@@ -15,7 +15,7 @@ use Rattle.line_invariant.proofs.HomeLanes.{lanes-ack, lanes-all-quiet, all_in}
 use Rattle.line_invariant.proofs.HomeNodes.{node-acked}
 use Rattle.line_invariant.proofs.Marks.{keep, at-one}
 use Rattle.eager_model.specs.Line.{AgedLine}
-use Rattle.eager_model.specs.Good.{IsDraining, IsSettled, IsAgeIn, has_words, draining_role}
+use Rattle.eager_model.specs.Good.{IsDraining, IsSettled, has_words, draining_role}
 use Rattle.eager_model.proofs.Quiet.{quiet_row, quiet-top, quiet-node, quiet-ages}
 use Rattle.eager_model.proofs.Newest.{newest-of-ages}
 
@@ -64,7 +64,10 @@ module _ (home : ℕ) (line : AgedLine) (newest : line.words_at line.top ≡ lin
         has = good.has;
         lanes = lanes-ack home p line.line.lane good.status apart good.lanes rest comes.2 comes.1 comes.0;
         header = rw on (record {
-          waits = header.waits; dirty = header.dirty; memory = header.memory; some = grind (arith, nat_tests);
+          waits = header.waits;
+          dirty = header.dirty;
+          memory = header.memory;
+          some = grind (arith, nat_tests);
           due = ap (λ n. n - 1) header.due ∙ sym (counted ∙ simp from.1);
           granted = (let e = header.granted in grind (arith, nat_tests, listings));
           own = header.own;

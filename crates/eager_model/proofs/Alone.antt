@@ -1,16 +1,15 @@
 -- When one node alone has a line's words: the home's own copy is the only one, or memory of a line that nobody else shares, or an owner that is asked for it.
-use Rattle.std.proofs.Common.{◌≡◌, ◌≢◌, ◌⊎◌, ℕ, suc, Bool, true, false, cond, ◌==◌, ◌||◌, map, refl, arith, ap, sym, ◌∙◌, subst, inl, inr, Option}
+use Rattle.std.proofs.Common.{◌≡◌, ◌≢◌, ◌⊎◌, ℕ, suc, Bool, true, false, cond, ◌==◌, ◌||◌, refl, arith, ap, sym, ◌∙◌, subst, inl, inr, Option}
 use Rattle.std.proofs.Math.Bool.{and-true}
-use Rattle.std.proofs.lemmas.Bool.{ne_eqb}
 use Rattle.std.proofs.lemmas.Bool.Decides.{nat_tests}
-use Rattle.eager_model.specs.Types.{Class, Want}
+use Rattle.eager_model.specs.Types.{Want}
 use Rattle.op_model.specs.Nodes.{listed}
 use Rattle.op_model.specs.Operations.{Words}
-use Rattle.op_model.specs.Lines.{Absent, Copy, is_empty, is_exclusive}
+use Rattle.op_model.specs.Lines.{Copy, is_empty, is_exclusive}
 use Rattle.op_model.proofs.Plain.{eqb-self}
-use Rattle.line_invariant.specs.Good.{Status, Carrier, Resting, AskingX, Forwarded, NotLeaving, Duty, NoDuty, ToGive, Phase, Clean, HomeOwns, Asked, Role, MayShare, Bare, Holds, Waiting, Usual, ByForward, IsGood, IsGoodNode, IsGoodHome, IsGoodHeader, IsAskedBy, is_put, is_write_answer, is_write_back, asked_role}
+use Rattle.line_invariant.specs.Good.{Status, AskingX, NotLeaving, NoDuty, ToGive, Clean, HomeOwns, Asked, MayShare, Bare, Holds, Waiting, Usual, ByForward, IsGood, IsGoodNode, IsGoodHome, IsGoodHeader, IsAskedBy, is_put, is_write_answer, is_write_back}
 use Rattle.eager_model.specs.Line.{AgedLine}
-use Rattle.eager_model.specs.Newest.{newest_age, counts, is_unmarked}
+use Rattle.eager_model.specs.Newest.{is_unmarked}
 use Rattle.eager_model.proofs.LaneAges.{is_returned}
 use Rattle.eager_model.proofs.Taken.{bare-lane}
 use Rattle.eager_model.proofs.Begins.{IsAlone}

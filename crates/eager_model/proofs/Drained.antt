@@ -14,7 +14,7 @@ use Rattle.line_invariant.proofs.HomeNodes.{node-all-in, node-may-share}
 use Rattle.line_invariant.proofs.LocalNodes.{bare-any}
 use Rattle.eager_model.specs.Rows.{drained_list}
 use Rattle.eager_model.specs.Line.{AgedLine}
-use Rattle.eager_model.specs.Good.{IsDraining, IsSettled, IsAgeIn, has_words}
+use Rattle.eager_model.specs.Good.{IsDraining, IsSettled, has_words}
 use Rattle.eager_model.proofs.Quiet.{quiet_row}
 use Rattle.eager_model.proofs.Acknowledgements.{comes, from, drained, bare-has-none, holder-has, holder-any}
 

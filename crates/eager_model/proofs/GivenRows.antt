@@ -1,25 +1,25 @@
 -- The ages of a line that doesn't drain after its words are given away: the home gives its own copy or memory's words, H10 and H13, and an owner hands the line on, N4 and N5.
-use Rattle.std.proofs.Common.{◌≡◌, ◌≢◌, ◌⊎◌, ℕ, suc, Bool, true, false, cond, ◌==◌, ◌&&◌, not, List, [], ◌∷◌, map, refl, arith, ap, sym, ◌∙◌, subst, inl, inr}
+use Rattle.std.proofs.Common.{◌≡◌, ◌⊎◌, ℕ, suc, Bool, true, false, cond, ◌==◌, ◌&&◌, not, List, [], ◌∷◌, refl, arith, ap, sym, ◌∙◌, subst, inl, inr}
 use Rattle.std.proofs.lemmas.Bool.Decides.{nat_tests}
 use Rattle.eager_model.specs.Types.{Class}
 use Rattle.op_model.specs.declared.messages.NakCause.TheVariants.{Pending, Budget}
 use Rattle.op_model.specs.Nodes.{Nodes, listed, unlist, count, none, listings, none_of_count, listed-none}
 use Rattle.op_model.specs.Operations.{Words}
 use Rattle.op_model.specs.Messages.{Content, GetX, FwdGetX, PutX, FAck}
-use Rattle.op_model.specs.Lines.{Absent, Header, LineShare, Room, Outcome, sending, is_empty, is_exclusive, is_pending, owner, words_of}
+use Rattle.op_model.specs.Lines.{Absent, Header, Room, sending, is_empty, is_exclusive, is_pending, owner, words_of}
 use Rattle.op_model.specs.Tables.Home.{on_getx, give_home_copy, give_memory, forward_getx, no_other}
-use Rattle.op_model.specs.Tables.Remote.{on_fwd_getx, gone, is_invalidate}
+use Rattle.op_model.specs.Tables.Remote.{on_fwd_getx, is_invalidate}
 use Rattle.line_invariant.specs.Line.{share_of}
-use Rattle.line_invariant.specs.Good.{IsGood, AskingX}
+use Rattle.line_invariant.specs.Good.{AskingX}
 use Rattle.line_invariant.proofs.Basics.{if-either}
 use Rattle.line_invariant.proofs.HomeRows.{clean-phase, home-phase}
 use Rattle.eager_model.specs.Rows.{asks_shared}
-use Rattle.eager_model.specs.Ages.{LineAges, age_given, with_copy}
+use Rattle.eager_model.specs.Ages.{age_given, with_copy}
 use Rattle.eager_model.specs.Line.{AgedLine, ages_of, greater}
 use Rattle.eager_model.specs.Newest.{newest_age}
 use Rattle.eager_model.specs.Good.{IsSettled}
 use Rattle.eager_model.proofs.Taken.{left_line, newest-taken, rest-same}
-use Rattle.eager_model.proofs.NewestRows.{AreSent, IsNewRow, given-copy, given-home, given-memory, home-waits, full-copy}
+use Rattle.eager_model.proofs.NewestRows.{AreSent, given-copy, given-home, given-memory, home-waits, full-copy}
 use Rattle.eager_model.proofs.Begins.{IsAlone, newest-given}
 use Rattle.eager_model.proofs.Alone.{alone-home, alone-memory}
 use Rattle.eager_model.proofs.TakenRows.{Row, row-gone, exclusive-full}

@@ -1,14 +1,14 @@
 -- The ages of a line that doesn't drain after the home takes a message, where no age begins.
-use Rattle.std.proofs.Common.{◌≡◌, ◌≢◌, ℕ, Bool, true, false, cond, ◌==◌, ◌&&◌, not, List, [], ◌∷◌, map, refl, arith, ap, sym, ◌∙◌, subst}
+use Rattle.std.proofs.Common.{◌≡◌, ℕ, Bool, true, false, cond, ◌==◌, ◌&&◌, not, List, [], ◌∷◌, map, refl, arith, ap, sym, ◌∙◌}
 use Rattle.std.proofs.lemmas.Bool.Decides.{nat_tests}
-use Rattle.eager_model.specs.Types.{Class, Idle}
+use Rattle.eager_model.specs.Types.{Class}
 use Rattle.op_model.specs.declared.messages.NakCause.{NakCause}
 use Rattle.op_model.specs.declared.messages.NakCause.TheVariants.{Pending, NoLink, Budget}
-use Rattle.op_model.specs.Nodes.{enlist, unlist, none, only}
+use Rattle.op_model.specs.Nodes.{unlist}
 use Rattle.op_model.specs.Operations.{Words}
-use Rattle.op_model.specs.Messages.{Content, Get, FwdGet, FwdGetX, Wb, Rpl, Put, Nak, ShWb, FAck, Nakc}
+use Rattle.op_model.specs.Messages.{Content, Get, FwdGet, Wb, Rpl, Put, Nak, ShWb, FAck, Nakc}
 use Rattle.op_model.specs.Lines.{Shared, Header, LineShare, Room, Outcome, For, no_message, is_empty, is_idle, is_pending, owner, words_of}
-use Rattle.op_model.specs.Tables.Home.{on_get, on_wb, on_rpl, on_shwb, on_fack, on_nakc, refuse, share_home_copy, share_memory, forward_get, lacks_link, requester_of}
+use Rattle.op_model.specs.Tables.Home.{on_get, on_wb, on_rpl, on_shwb, on_fack, on_nakc, refuse, share_home_copy, share_memory, forward_get, lacks_link}
 use Rattle.op_model.specs.Tables.Remote.{is_invalidate}
 use Rattle.op_model.proofs.Plain.{eqb-self}
 use Rattle.line_invariant.specs.Line.{share_of}

@@ -1,5 +1,5 @@
 -- The ages of a line that doesn't drain, told by what is under way and by one age a node: what begins to drain is read so, and what has drained is given back.
-use Rattle.std.proofs.Common.{◌≡◌, ◌≢◌, ℕ, ◌≤◌, Bool, true, false, cond, ◌==◌, ◌&&◌, ◌||◌, not, List, map, refl, arith, ap, sym, ◌∙◌, subst, Option, Some, None}
+use Rattle.std.proofs.Common.{◌≡◌, ◌≢◌, ℕ, ◌≤◌, Bool, true, false, cond, ◌==◌, ◌&&◌, ◌||◌, map, refl, arith, ap, sym, ◌∙◌, subst, Option}
 use Rattle.std.proofs.lemmas.Bool.Decides.{nat_tests}
 use Rattle.eager_model.specs.Types.{Class, Want}
 use Rattle.op_model.specs.Operations.{Words}
@@ -7,10 +7,10 @@ use Rattle.op_model.specs.Messages.{Content, Get, GetX, FwdGet, FwdGetX, Inv, Wb
 use Rattle.op_model.specs.Lines.{Copy, Header, is_empty}
 use Rattle.op_model.specs.Tables.Remote.{is_invalidate}
 use Rattle.op_model.proofs.Plain.{eqb-self}
-use Rattle.line_invariant.specs.Good.{Status, Carrier, Leaving, NotLeaving, Duty, NoDuty, Role, Holds, Bare, Waiting, Usual, asked_role, Phase, Clean, HomeOwns, Owned, Called, Asked, SharedOut, HandedOn, IsGood, IsGoodHeader, IsCarried, IsLeft, expected, role_in, is_put, is_write_answer, is_write_back}
+use Rattle.line_invariant.specs.Good.{Status, Carrier, Leaving, NotLeaving, Duty, NoDuty, Role, Holds, Bare, Waiting, Usual, asked_role, Phase, Clean, HomeOwns, Owned, Called, Asked, SharedOut, HandedOn, IsGood, IsGoodHeader, IsCarried, IsLeft, role_in, is_put, is_write_answer, is_write_back}
 use Rattle.eager_model.specs.Line.{AgedLine}
-use Rattle.eager_model.specs.Newest.{AreNewest, newest_age, counts, is_unmarked}
-use Rattle.eager_model.specs.Good.{IsSettled, AreAges, IsAgeIn, has_words, message_age}
+use Rattle.eager_model.specs.Newest.{AreNewest, newest_age, is_unmarked}
+use Rattle.eager_model.specs.Good.{AreAges, IsAgeIn, has_words, message_age}
 use Rattle.eager_model.proofs.LaneAges.{has_age, same-lane}
 
 -- messages without words have no age
@@ -104,7 +104,7 @@ module _ (home : ℕ) (line : AgedLine) (good : IsGood home line.line) where
   told has backs gives puts a b class =
       ap (λ ms. map (newest_age line.top (line.last b)) ms) (good.lanes a b class)
       ∙ same-lane (newest_age line.top (line.last b)) (message_age line.top has a b) (plain-age line.top (line.last b) has a b) home good.status a b (line.line.want b) (line.line.copy b) (carried b)
-          (λ e w. sym (backs a e)) (λ e w. refl) (λ e w. puts b e) (λ e w. sym (gives b e)) class
+      (λ e w. sym (backs a e)) (λ e w. refl) (λ e w. puts b e) (λ e w. sym (gives b e)) class
       ∙ ap (λ ms. map (message_age line.top has a b) ms) (sym (good.lanes a b class))
 
   -- the age of what a node has: its words under way are those of its last operation

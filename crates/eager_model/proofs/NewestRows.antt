@@ -1,12 +1,11 @@
 -- What a row at any node does to the ages of a line that doesn't drain: a row that serves nothing, one that serves, and one that begins an age.
-use Rattle.std.proofs.Common.{◌≡◌, ◌≢◌, ℕ, suc, ◌≤◌, Bool, true, false, cond, ◌==◌, ◌&&◌, ◌||◌, not, ◌++◌, List, [], ◌∷◌, map, refl, arith, ap, sym, ◌∙◌, subst, Option}
+use Rattle.std.proofs.Common.{◌≡◌, ℕ, ◌≤◌, Bool, true, false, cond, ◌==◌, ◌&&◌, ◌++◌, List, [], ◌∷◌, map, refl, arith, ap, sym, ◌∙◌, subst}
 use Rattle.std.proofs.lemmas.Bool.Decides.{nat_tests}
-use Rattle.eager_model.specs.Types.{Class, Op, Want}
+use Rattle.eager_model.specs.Types.{Class, Op}
 use Rattle.op_model.specs.Operations.{Words, is_load}
-use Rattle.op_model.specs.Messages.{Content, Get, GetX, FwdGet, FwdGetX, Inv, Wb, Rpl, Put, PutX, Nak, InvAck, ShWb, FAck, Nakc, class_of, same_class}
-use Rattle.op_model.specs.Lines.{Header, LineShare, Service, NoService, Own, For, Outcome, no_message, is_empty}
+use Rattle.op_model.specs.Messages.{Content, class_of, same_class}
+use Rattle.op_model.specs.Lines.{Header, LineShare, Service, NoService, Own, For, Outcome, is_empty}
 use Rattle.op_model.specs.Tables.Remote.{is_invalidate}
-use Rattle.op_model.proofs.Plain.{eqb-self}
 use Rattle.line_invariant.specs.Line.{share_of, addressed}
 use Rattle.eager_model.specs.Ages.{LineAges, sent_age, age_given, served_age}
 use Rattle.eager_model.specs.Line.{AgedLine, ages_of, aged_row, greater, begun_age}

@@ -1,19 +1,19 @@
 -- Beginning an operation on a line that doesn't drain keeps it good: it stays settled, but where the home writes to a line that others share, E1.
-use Rattle.std.proofs.Common.{◌≡◌, ◌≢◌, ℕ, suc, Bool, true, false, cond, ◌==◌, ◌&&◌, not, List, [], ◌∷◌, map, refl, arith, ap, sym, ◌∙◌, subst, inl, Result, Ok, Err, Option, None}
+use Rattle.std.proofs.Common.{◌≡◌, ℕ, suc, Bool, true, false, cond, ◌==◌, ◌&&◌, not, List, [], ◌∷◌, refl, arith, ap, sym, ◌∙◌, subst, inl, Result, Ok, Err, None}
 use Rattle.std.proofs.lemmas.Bool.Decides.{nat_tests}
-use Rattle.eager_model.specs.Types.{Cause, Class, Op, Want}
+use Rattle.eager_model.specs.Types.{Cause, Op}
 use Rattle.op_model.specs.declared.state.Wait.TheVariants.{ForwardGet, ForwardGetX}
-use Rattle.op_model.specs.Nodes.{Nodes, listed, count, none, in_order, listings, none_of_count, listed-none}
-use Rattle.op_model.specs.Operations.{Words, is_load, after_op}
+use Rattle.op_model.specs.Nodes.{Nodes, listed, count, none, in_order, none_of_count, listed-none}
+use Rattle.op_model.specs.Operations.{is_load}
 use Rattle.op_model.specs.Messages.{Content, Get, GetX, FwdGet, FwdGetX}
-use Rattle.op_model.specs.Lines.{Copy, Shared, Exclusive, Header, Room, Outcome, Own, sending, no_message, begun, is_empty, is_pending, nobody_listed, owner, without_shared, to_each}
+use Rattle.op_model.specs.Lines.{Copy, Header, Room, Outcome, Own, sending, no_message, begun, is_empty, is_pending, nobody_listed, owner, without_shared, to_each}
 use Rattle.op_model.specs.Tables.Processor.{serves, ask, load_at_home, write_at_home, invalidate_for_home, forward_get_home, forward_getx_home, begin_at_home}
 use Rattle.op_model.specs.Tables.Processor as delayed
 use Rattle.op_model.specs.Tables.Remote.{is_invalidate}
 use Rattle.op_model.proofs.Plain.{err-ok}
-use Rattle.line_invariant.specs.Line.{share_of, after_row}
-use Rattle.line_invariant.specs.Good.{IsGood, IsGoodHeader, Clean}
-use Rattle.line_invariant.specs.Rows.{IsOwnServed, IsOwnWant, IsDoneRight, EndsRight}
+use Rattle.line_invariant.specs.Line.{share_of}
+use Rattle.line_invariant.specs.Good.{IsGoodHeader, Clean}
+use Rattle.line_invariant.specs.Rows.{IsOwnServed, IsOwnWant, EndsRight}
 use Rattle.line_invariant.proofs.Basics.{if-either}
 use Rattle.line_invariant.proofs.HomeRows.{clean-phase}
 use Rattle.line_invariant.proofs.Locals.{good-begin}
@@ -141,18 +141,24 @@ module _ (home : ℕ) (line : AgedLine) (settled : IsSettled home line) (me : �
       settles : (o : Outcome) → ((me == home) && writes_shared op line.line.header) ≡ false → delayed.begin_op me home room op (share_of line.line me) ≡ Ok o → Fine o
       settles o other ok =
           let good = good-begin home line.line settled.good me op free room o ok in
-          let row = begun-row o other ok in
-          (settled-row home me line o (with_copy o.share.copy (ages_begun o (ages_of line me))) good.0 row,
-          served-at line me newest settled.ages.past _ (above line.top _) o.served _ (own-well op line.line.words o.served good.1) row.at_top,
-          good.1, good.2, good.3)
+          let row = begun-row o other ok in (
+            settled-row home me line o (with_copy o.share.copy (ages_begun o (ages_of line me))) good.0 row,
+            served-at line me newest settled.ages.past _ (above line.top _) o.served _ (own-well op line.line.words o.served good.1) row.at_top,
+            good.1,
+            good.2,
+            good.3,
+          )
 
       -- E1
       drains : me ≡ home → is_pending line.line.header ≡ false → line.line.header.dirty ≡ false → is_load op.kind ≡ false → nobody_listed line.line.header.list ≡ false → Fine (write_and_drain home op (share_of line.line me))
-      drains same idle clean write some =
-          (subst (λ n. IsEagerGood home (aged_row home n (write_and_drain home op (share_of line.line n)) (with_copy (write_and_drain home op (share_of line.line n)).share.copy (ages_begun (write_and_drain home op (share_of line.line n)) (ages_of line n))) line)) (sym same)
-              (good-home-write home line op idle clean some (record { newest = newest; stands = inl settled })),
-          served-at line me newest settled.ages.past _ (above line.top _) (Own op line.line.header.memory) _ memory (ap suc (settled.ages.memory clean) ∙ sym top, λ load. absurd (grind arith)),
-          (memory, refl), rw free tt, (free, refl))
+      drains same idle clean write some = (
+        subst (λ n. IsEagerGood home (aged_row home n (write_and_drain home op (share_of line.line n)) (with_copy (write_and_drain home op (share_of line.line n)).share.copy (ages_begun (write_and_drain home op (share_of line.line n)) (ages_of line n))) line)) (sym same)
+            (good-home-write home line op idle clean some (record { newest = newest; stands = inl settled })),
+        served-at line me newest settled.ages.past _ (above line.top _) (Own op line.line.header.memory) _ memory (ap suc (settled.ages.memory clean) ∙ sym top, λ load. absurd (grind arith)),
+        (memory, refl),
+        rw free tt,
+        (free, refl),
+      )
         where
           memory : line.line.header.memory ≡ line.line.words
           memory =

@@ -1,22 +1,19 @@
 -- What a processor does on a line that doesn't drain keeps it good: a hit, a beginning and an eviction.
-use Rattle.std.proofs.Common.{◌≡◌, ◌≢◌, ◌⊎◌, ℕ, suc, Bool, true, false, cond, ◌==◌, ◌&&◌, not, List, [], ◌∷◌, map, refl, arith, ap, sym, ◌∙◌, subst, inl, inr, Result, Ok, Err, Option, Some, None}
-use Rattle.std.proofs.lemmas.Bool.Decides.{nat_tests}
-use Rattle.eager_model.specs.Types.{Cause, Class, Op, Want}
+use Rattle.std.proofs.Common.{◌≡◌, ℕ, Bool, true, false, cond, ◌==◌, ◌&&◌, List, [], ◌∷◌, refl, arith, ap, sym, ◌∙◌, subst, inl, Result, Ok, Option, Some, None}
+use Rattle.eager_model.specs.Types.{Cause, Op, Want}
 use Rattle.op_model.specs.declared.events.EvictKind.{EvictKind}
 use Rattle.op_model.specs.declared.events.EvictKind.TheVariants as way
-use Rattle.op_model.specs.Nodes.{Nodes, listed, count, none, listings, none_of_count, listed-none}
-use Rattle.op_model.specs.Operations.{Words, is_load, after_op}
-use Rattle.op_model.specs.Messages.{Content, Get, GetX, FwdGet, FwdGetX, Wb, Rpl}
-use Rattle.op_model.specs.Lines.{Copy, Absent, Shared, Exclusive, Header, LineShare, Room, Outcome, NoService, Own, sending, no_message, begun, is_empty, is_exclusive, is_pending, nobody_listed, owner, words_of, without_shared}
-use Rattle.op_model.specs.Tables.Processor.{serves, done_on, hit, ask, load_at_home, write_at_home, forward_get_home, forward_getx_home, fits, evict, leave_home, leave_remote}
+use Rattle.op_model.specs.Messages.{Content, Wb, Rpl}
+use Rattle.op_model.specs.Lines.{Copy, Absent, Shared, Exclusive, Header, Outcome, Own, sending, no_message, is_empty, is_exclusive, words_of}
+use Rattle.op_model.specs.Tables.Processor.{serves, done_on, hit, fits, evict, leave_home, leave_remote}
 use Rattle.op_model.specs.Tables.Remote.{is_invalidate}
-use Rattle.op_model.proofs.Plain.{eqb-self, err-ok}
+use Rattle.op_model.proofs.Plain.{err-ok}
 use Rattle.line_invariant.specs.Line.{share_of, after_row}
 use Rattle.line_invariant.specs.Good.{IsGood}
 use Rattle.line_invariant.proofs.Basics.{if-either}
 use Rattle.line_invariant.proofs.Locals.{good-hit, hit-fresh, good-evict}
 use Rattle.line_invariant.proofs.Served.{idle-answered, wants-empty}
-use Rattle.eager_model.specs.Ages.{LineAges, age_given, ages_begun, ages_left, with_copy}
+use Rattle.eager_model.specs.Ages.{LineAges, age_given, ages_left, with_copy}
 use Rattle.eager_model.specs.Line.{AgedLine, ages_of, aged_row}
 use Rattle.eager_model.specs.Served.{IsServedAt, age_served}
 use Rattle.eager_model.specs.Good.{IsSettled, IsEagerGood}

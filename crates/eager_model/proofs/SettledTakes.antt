@@ -1,5 +1,5 @@
 -- Every message that is taken on a line that doesn't drain meets a row and keeps the line good: it stays settled, but where a GetX makes it drain.
-use Rattle.std.proofs.Common.{◌≡◌, ◌≢◌, ℕ, Bool, true, false, cond, ◌==◌, ◌&&◌, ◌||◌, not, List, ◌∷◌, refl, arith, ap, sym, ◌∙◌, subst, inl}
+use Rattle.std.proofs.Common.{◌≡◌, ◌≢◌, ℕ, Bool, true, false, ◌==◌, ◌&&◌, not, List, ◌∷◌, refl, arith, ap, sym, ◌∙◌, subst, inl}
 use Rattle.std.proofs.lemmas.Bool.Decides.{nat_tests}
 use Rattle.eager_model.specs.Types.{Class, Request, Reply}
 use Rattle.op_model.specs.Nodes.{listed}
@@ -10,9 +10,9 @@ use Rattle.op_model.specs.Tables.Home as delayed_home
 use Rattle.op_model.specs.Tables.Remote.{on_fwd_get, is_invalidate, waits_load, waits_write}
 use Rattle.op_model.specs.Tables.Remote as delayed
 use Rattle.op_model.proofs.Plain.{eqb-self}
-use Rattle.line_invariant.specs.Line.{share_of, words_after}
+use Rattle.line_invariant.specs.Line.{share_of}
 use Rattle.line_invariant.specs.Rows.{IsServedFor}
-use Rattle.line_invariant.specs.Good.{IsGood, IsGoodNode, IsGoodHeader, AskingX, Asked, ToGive, asked_role}
+use Rattle.line_invariant.specs.Good.{IsGoodNode, IsGoodHeader, AskingX, Asked, ToGive, asked_role}
 use Rattle.line_invariant.proofs.Basics.{if-either}
 use Rattle.line_invariant.proofs.Fronts.{getx-comes, fwdx-first, request-away, answer-comes, replies-only, reply-home}
 use Rattle.line_invariant.proofs.ForwardNodes.{asked-phase, node-holds}

@@ -4,7 +4,7 @@ use Rattle.std.proofs.lemmas.Bool.Decides.{nat_tests}
 use Rattle.eager_model.specs.Types.{Class}
 use Rattle.op_model.specs.Messages.{Content, same_class}
 use Rattle.line_invariant.specs.Line.{taken}
-use Rattle.line_invariant.specs.Good.{IsGood, is_put, is_write_answer, is_write_back}
+use Rattle.line_invariant.specs.Good.{IsGood, is_write_answer, is_write_back}
 use Rattle.eager_model.specs.Line.{AgedLine, taken_age}
 use Rattle.eager_model.specs.Newest.{AreNewest, newest_age}
 use Rattle.eager_model.proofs.LaneAges.{has_age, is_returned, same-lane}
@@ -55,7 +55,7 @@ module _ (home : ℕ) (line : AgedLine) (good : IsGood home line.line) where
   free-lane x free top l l' a class =
       ap (λ ms. map (newest_age top l) ms) (good.lanes a x class)
       ∙ same-lane (newest_age top l) (newest_age top l') (plain-same top l top l') home good.status a x (line.line.want x) (line.line.copy x) (carried home line good x)
-          (λ e w. refl) (λ e w. refl) (λ e w. absurd (let no : true ≡ false = sym e ∙ sym (good.answered x) ∙ free in grind arith)) (λ e w. refl) class
+      (λ e w. refl) (λ e w. refl) (λ e w. absurd (let no : true ≡ false = sym e ∙ sym (good.answered x) ∙ free in grind arith)) (λ e w. refl) class
       ∙ ap (λ ms. map (newest_age top l') ms) (sym (good.lanes a x class))
 
   -- where no node has the line, no message has the newest age
@@ -64,5 +64,5 @@ module _ (home : ℕ) (line : AgedLine) (good : IsGood home line.line) where
   bare-lane backs gives returns top top' l a b class =
       ap (λ ms. map (newest_age top l) ms) (good.lanes a b class)
       ∙ same-lane (newest_age top l) (newest_age top' l) (plain-same top l top' l) home good.status a b (line.line.want b) (line.line.copy b) (carried home line good b)
-          (λ e w. absurd (let no : true ≡ false = sym e ∙ backs a in grind arith)) (λ e w. absurd (let no : true ≡ false = sym e ∙ returns a in grind arith)) (λ e w. refl) (λ e w. absurd (let no : true ≡ false = sym e ∙ gives b in grind arith)) class
+      (λ e w. absurd (let no : true ≡ false = sym e ∙ backs a in grind arith)) (λ e w. absurd (let no : true ≡ false = sym e ∙ returns a in grind arith)) (λ e w. refl) (λ e w. absurd (let no : true ≡ false = sym e ∙ gives b in grind arith)) class
       ∙ ap (λ ms. map (newest_age top' l) ms) (sym (good.lanes a b class))

@@ -1,25 +1,25 @@
 -- The ages of a line that doesn't drain after a message without words that count for more than its taker, or after an answer: the rows of any node but those of the home and those that hand the line on.
-use Rattle.std.proofs.Common.{◌≡◌, ◌≢◌, ℕ, Bool, true, false, cond, ◌==◌, ◌||◌, not, List, [], ◌∷◌, map, refl, arith, ap, sym, ◌∙◌, subst, Option, Some, None}
-use Rattle.std.proofs.lemmas.Bool.{ne_eqb, not-true}
+use Rattle.std.proofs.Common.{◌≡◌, ℕ, Bool, true, false, cond, ◌==◌, ◌||◌, List, [], ◌∷◌, refl, arith, ◌∙◌, Option, Some, None}
+use Rattle.std.proofs.lemmas.Bool.{not-true}
 use Rattle.std.proofs.lemmas.Bool.Decides.{nat_tests}
 use Rattle.eager_model.specs.Types.{Class, Want, Idle}
 use Rattle.op_model.specs.declared.messages.NakCause.{NakCause}
 use Rattle.op_model.specs.declared.messages.NakCause.TheVariants.{Gone}
 use Rattle.op_model.specs.Nodes.{none}
 use Rattle.op_model.specs.Operations.{Words, is_load, after_op}
-use Rattle.op_model.specs.Messages.{Content, Nakc, FwdGet, FwdGetX, Inv, Put, PutX, Nak, InvAck, ShWb}
-use Rattle.op_model.specs.Lines.{Copy, Absent, Shared, Exclusive, Header, LineShare, Outcome, NoService, Own, For, no_message, is_empty, is_exclusive, words_of, without_shared, marked_load}
-use Rattle.op_model.specs.Tables.Remote.{on_inv, on_nak, on_put, on_putx, on_fwd_get, gone, is_invalidate, waits_load, waits_write}
+use Rattle.op_model.specs.Messages.{Content, Nakc, FwdGet, Inv, Put, PutX, Nak, InvAck, ShWb}
+use Rattle.op_model.specs.Lines.{Copy, Shared, Exclusive, Outcome, NoService, For, no_message, is_empty, is_exclusive, words_of, without_shared, marked_load}
+use Rattle.op_model.specs.Tables.Remote.{on_inv, on_nak, on_put, on_putx, on_fwd_get, gone, is_invalidate, waits_write}
 use Rattle.op_model.proofs.Plain.{eqb-self}
 use Rattle.line_invariant.specs.Line.{share_of}
 use Rattle.line_invariant.proofs.Basics.{if-either}
 use Rattle.line_invariant.proofs.Served.{writes-answered, put-answered}
-use Rattle.eager_model.specs.Ages.{LineAges, age_given, ages_taken, with_copy}
+use Rattle.eager_model.specs.Ages.{age_given, ages_taken, with_copy}
 use Rattle.eager_model.specs.Line.{AgedLine, ages_of}
-use Rattle.eager_model.specs.Newest.{AreNewest, newest_age, is_unmarked, counts}
+use Rattle.eager_model.specs.Newest.{newest_age, is_unmarked}
 use Rattle.eager_model.specs.Good.{IsSettled}
 use Rattle.eager_model.proofs.Taken.{left_line, first-age, newest-taken, rest-same, free-lane}
-use Rattle.eager_model.proofs.NewestRows.{AreSent, IsNewRow, newest-quiet, newest-for, newest-own, given-copy, away-waits, home-waits, away-memory, home-memory, kept-copy, full-copy}
+use Rattle.eager_model.proofs.NewestRows.{AreSent, IsNewRow, newest-quiet, newest-for, newest-own, given-copy, home-waits, away-memory, home-memory, kept-copy, full-copy}
 
 none-counts : (b x : Bool) → (b || false) ≡ true → (b || x) ≡ true
 none-counts b x e = grind arith
@@ -80,8 +80,12 @@ module _ (home : ℕ) (line : AgedLine) (settled : IsSettled home line) (from to
   row-fwd r front off waits =
       if-either (Row (FwdGet r)) (is_exclusive (line.line.copy to)) _ _ (λ held. shared held) (λ _. row-gone (FwdGet r) front r)
     where
-      shared : is_exclusive (line.line.copy to) ≡ true → Row (FwdGet r) (record { share = record (share_of line.line to) { copy = Shared (words_of (line.line.copy to)) };
-          sends = cond (r == home) ((home, Put (words_of (line.line.copy to))) ∷ []) ((r, Put (words_of (line.line.copy to))) ∷ (home, ShWb (words_of (line.line.copy to))) ∷ []); served = For r (words_of (line.line.copy to)); done = false })
+      shared : is_exclusive (line.line.copy to) ≡ true → Row (FwdGet r) (record {
+        share = record (share_of line.line to) { copy = Shared (words_of (line.line.copy to)) };
+        sends = cond (r == home) ((home, Put (words_of (line.line.copy to))) ∷ []) ((r, Put (words_of (line.line.copy to))) ∷ (home, ShWb (words_of (line.line.copy to))) ∷ []);
+        served = For r (words_of (line.line.copy to));
+        done = false;
+      })
       shared held =
           newest-for home to (left_line from to class rest ages line) (record (share_of line.line to) { copy = Shared (words_of (line.line.copy to)) })
           (cond (r == home) ((home, Put (words_of (line.line.copy to))) ∷ []) ((r, Put (words_of (line.line.copy to))) ∷ (home, ShWb (words_of (line.line.copy to))) ∷ [])) false
@@ -160,7 +164,7 @@ module _ (home : ℕ) (line : AgedLine) (settled : IsSettled home line) (from to
           (with_copy (Exclusive (after_op want.op words)) (record (ages_of line to) { copy = age })) (newest-taken home line from to class (PutX words) rest front age ages first settled.ages)
           want.op words refl refl (waits (to == home)) refl (first-age home line from to class (PutX words) rest front age ages first settled.ages) (memory (to == home))
           (λ a k l. rest-same home line from to class (PutX words) rest front (newest_age line.top (line.last to)) (newest_age line.top l) to
-              (λ a k. free-lane home line settled.good to (writes-answered home line.line settled.good to want.op want.marked e (not-true (is_load want.op.kind) f)) line.top (line.last to) l a k) a k)
+          (λ a k. free-lane home line settled.good to (writes-answered home line.line settled.good to want.op want.marked e (not-true (is_load want.op.kind) f)) line.top (line.last to) l a k) a k)
         where
           waits : (b : Bool) → is_invalidate (cond b (cond b (record line.line.header { local = true; dirty = true; wait = Idle; list = none }) line.line.header) line.line.header).wait ≡ false
           waits true = refl

@@ -2,7 +2,7 @@
 use Rattle.std.specs.Prelude.{◌≡◌, ℕ, ◌≤◌, Bool, true, false, if◌then◌else◌, not, ◌||◌, ◌==◌, map, Option, Some, None}
 use Rattle.eager_model.specs.Types.{Class, Want}
 use Rattle.op_model.specs.Messages.{Content, Wb, Put, PutX, ShWb}
-use Rattle.op_model.specs.Lines.{Service, NoService, Own, For, is_empty}
+use Rattle.op_model.specs.Lines.{is_empty}
 use Rattle.eager_model.specs.Line.{AgedLine}
 
 -- is a load begun whose line wasn't called in meanwhile
