@@ -10,7 +10,8 @@ use Rattle.line_invariant.specs.Line.{share_of}
 use Rattle.eager_model.specs.Ages.{LineAges, age_given}
 use Rattle.eager_model.specs.Line.{AgedLine, ages_of, greater, begun_age}
 use Rattle.eager_model.specs.Newest.{AreNewest, newest_age, counts}
-use Rattle.eager_model.proofs.NewestRows.{AreSent, IsNewRow, newest-row}
+use Rattle.eager_model.proofs.Sent.{AreSent}
+use Rattle.eager_model.proofs.NewestRows.{IsNewRow, newest-row}
 
 -- no node but this one has the line's words, and none that count are under way
 pub record IsAlone (home me : ℕ) (line : AgedLine) : Type 0 where

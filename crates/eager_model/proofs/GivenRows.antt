@@ -15,13 +15,15 @@ use Rattle.line_invariant.proofs.Basics.{if-either}
 use Rattle.line_invariant.proofs.HomeRows.{clean-phase, home-phase}
 use Rattle.eager_model.specs.Rows.{asks_shared}
 use Rattle.eager_model.specs.Ages.{age_given, with_copy}
-use Rattle.eager_model.specs.Line.{AgedLine, ages_of, greater}
+use Rattle.eager_model.specs.Line.{AgedLine, ages_of, greater, begun_age}
 use Rattle.eager_model.specs.Newest.{newest_age}
 use Rattle.eager_model.specs.Good.{IsSettled}
 use Rattle.eager_model.proofs.Taken.{left_line, newest-taken, rest-same}
-use Rattle.eager_model.proofs.NewestRows.{AreSent, given-copy, given-home, given-memory, home-waits, full-copy}
+use Rattle.eager_model.proofs.Sent.{AreSent}
+use Rattle.eager_model.proofs.NewestRows.{given-copy, given-home, given-memory, home-waits}
 use Rattle.eager_model.proofs.Begins.{IsAlone, newest-given}
 use Rattle.eager_model.proofs.Alone.{alone-home, alone-memory}
+use Rattle.eager_model.proofs.SettledFacts.{copy-newest}
 use Rattle.eager_model.proofs.TakenRows.{Row, row-gone, exclusive-full}
 use Rattle.eager_model.proofs.HomeTaken.{row-refuse, row-forward}
 
@@ -63,9 +65,9 @@ module _ (home : ℕ) (line : AgedLine) (settled : IsSettled home line) (from to
           (top (r == home)) refl (sent (r == home)) (still (to == home)) refl
         where
           given : age_given (to == home) (share_of line.line to) (ages_of line to) ≡ line.top
-          given = given-copy (to == home) (share_of line.line to) (ages_of line to) off ∙ full-copy (is_empty (line.line.copy to)) (line.copy_age to) line.top (settled.ages.copies to) (exclusive-full (line.line.copy to) held)
+          given = given-copy (to == home) (share_of line.line to) (ages_of line to) off ∙ copy-newest home line settled to (exclusive-full (line.line.copy to) held)
 
-          top : (c : Bool) → greater line.top (greater 0 (Rattle.eager_model.specs.Line.begun_age (age_given (to == home) (share_of line.line to) (ages_of line to)) (cond c ((home, PutX (words_of (line.line.copy to))) ∷ []) ((r, PutX (words_of (line.line.copy to))) ∷ (home, FAck) ∷ [])))) ≡ suc line.top
+          top : (c : Bool) → greater line.top (greater 0 (begun_age (age_given (to == home) (share_of line.line to) (ages_of line to)) (cond c ((home, PutX (words_of (line.line.copy to))) ∷ []) ((r, PutX (words_of (line.line.copy to))) ∷ (home, FAck) ∷ [])))) ≡ suc line.top
           top true = raised line.top _ given
           top false = raised-back line.top _ given
 
@@ -99,7 +101,7 @@ module _ (home : ℕ) (line : AgedLine) (settled : IsSettled home line) (from to
     own : is_pending line.line.header ≡ false → (line.line.header.dirty && line.line.header.local) ≡ true → Row home line settled from to class rest age ages first GetX (give_home_copy from (share_of line.line to))
     own idle has =
         given-row _ (words_of (line.line.copy to)) settled.settled (grind arith)
-        (given-home (to == home) (share_of line.line to) (ages_of line to) (grind arith) ∙ full-copy (is_empty (line.line.copy to)) (line.copy_age to) line.top (settled.ages.copies to) (full (is_empty (line.line.copy to)) line.line.header.local here (grind arith)))
+        (given-home (to == home) (share_of line.line to) (ages_of line to) (grind arith) ∙ copy-newest home line settled to (full (is_empty (line.line.copy to)) line.line.header.local here (grind arith)))
         (alone-home home line settled.good (home-phase home settled.good.phase line.line.words line.line.header (line.line.copy home) settled.good.header idle (grind arith) settled.good.local (grind arith)))
       where
         here : line.line.header.local ≡ not (is_empty (line.line.copy to))

@@ -1,10 +1,10 @@
 -- E1 keeps a line good: the home writes to a clean line, begins an age, and the shared copies become the older ones.
-use Rattle.std.proofs.Common.{◌≡◌, ◌≢◌, ◌⊎◌, ℕ, suc, ◌≤◌, Bool, true, false, cond, nat_lt, ◌==◌, ◌||◌, ◌++◌, List, [], map, refl, arith, ap, sym, ◌∙◌, inl, inr}
+use Rattle.std.proofs.Common.{◌≡◌, ◌≢◌, ◌⊎◌, ℕ, suc, ◌≤◌, Bool, true, false, cond, nat_lt, ◌==◌, ◌||◌, [], map, refl, arith, ap, sym, ◌∙◌, inl, inr}
 use Rattle.std.proofs.lemmas.Bool.Decides.{nat_tests}
 use Rattle.eager_model.specs.Types.{Op, Class}
 use Rattle.op_model.specs.Nodes.{listed, in_order}
 use Rattle.op_model.specs.Operations.{Words, after_op}
-use Rattle.op_model.specs.Lines.{Exclusive, is_empty, is_pending, nobody_listed, to_listed, to_each}
+use Rattle.op_model.specs.Lines.{Exclusive, is_empty, is_pending, nobody_listed, to_listed}
 use Rattle.line_invariant.specs.Line.{share_of, addressed}
 use Rattle.line_invariant.specs.Good.{Status, NotLeaving, NoDuty, Clean, MayShare, Recalled, Role, IsGoodNode, IsGoodHeader, IsGoodHome, IsCarried, role_in, is_put, is_write_answer}
 use Rattle.op_model.proofs.Plain.{eqb-self}
@@ -15,10 +15,11 @@ use Rattle.line_invariant.proofs.HomeRows.{clean-phase, home-rests}
 use Rattle.line_invariant.proofs.Marks.{rests}
 use Rattle.eager_model.specs.Rows.{write_and_drain}
 use Rattle.eager_model.specs.Ages.{with_copy, ages_begun, sent_age, age_given}
-use Rattle.eager_model.specs.Line.{AgedLine, ages_of, aged_row, greater}
+use Rattle.eager_model.specs.Line.{AgedLine, ages_of, aged_row}
 use Rattle.eager_model.specs.Good.{IsSettled, IsDraining, AreAges, has_words, draining_role, message_age}
 use Rattle.eager_model.proofs.Newest.{had, ages-of-newest}
-use Rattle.eager_model.proofs.Kept.{map-append, call-ages, any-words, kept-lane}
+use Rattle.eager_model.proofs.Maps.{map-append, both-parts}
+use Rattle.eager_model.proofs.Kept.{call-ages, raised-called, any-words, kept-lane}
 
 module _ (home : ℕ) (line : AgedLine) (newest : line.words_at line.top ≡ line.line.words) (settled : IsSettled home line) (op : Op)
     (idle : is_pending line.line.header ≡ false) (clean : line.line.header.dirty ≡ false) (some : nobody_listed line.line.header.list ≡ false) where
@@ -51,10 +52,7 @@ module _ (home : ℕ) (line : AgedLine) (newest : line.words_at line.top ≡ lin
   has n = cond (n == home) (suc line.top) (has_before n)
 
   next-top : next.top ≡ suc line.top
-  next-top = top (in_order line.line.header.list) _
-    where
-      top : (xs : List ℕ) (given : ℕ) → greater line.top (greater (suc line.memory_age) (Rattle.eager_model.specs.Line.begun_age given (to_each xs))) ≡ suc line.top
-      top xs given = let e = Rattle.eager_model.proofs.Kept.calls-begin-none given xs in let m = memory_top in grind (arith, nat_tests)
+  next-top = raised-called line.top line.memory_age _ (in_order line.line.header.list) memory_top
 
   -- each node that has words has the newest
   newest-before : (n : ℕ) → n ≢ home → has_words (line.line.copy n) (line.line.want n) (settled.good.status n) ≡ true → has_before n ≡ line.top
@@ -115,14 +113,11 @@ module _ (home : ℕ) (line : AgedLine) (newest : line.words_at line.top ≡ lin
           ∙ ap (λ ms. map (message_age next.top has a b) ms) (sym (settled.good.lanes a b class))
 
       lanes : (a b : ℕ) (class : Class) → next.lane_age a b class ≡ map (message_age next.top has a b) (next.line.lane a b class)
-      lanes a b class = both (before a b class) (called (a == home)) ∙ sym (map-append (message_age next.top has a b) (line.line.lane a b class) (cond (a == home) (addressed b class (to_listed line.line.header.list)) []))
+      lanes a b class = both-parts (before a b class) (called (a == home)) ∙ sym (map-append (message_age next.top has a b) (line.line.lane a b class) (cond (a == home) (addressed b class (to_listed line.line.header.list)) []))
         where
           called : (h : Bool) → cond h (map (sent_age (age_given (home == home) (share_of line.line home) (ages_of line home))) (addressed b class (to_listed line.line.header.list))) [] ≡ map (message_age next.top has a b) (cond h (addressed b class (to_listed line.line.header.list)) [])
           called true = call-ages _ next.top has a b class (in_order line.line.header.list)
           called false = refl
-
-          both : {xs ys zs ws : List ℕ} → xs ≡ ys → zs ≡ ws → xs ++ zs ≡ ys ++ ws
-          both e f = rw (e, f)
 
       copies : (n : ℕ) (b : Bool) → (n == home) ≡ b → cond b (suc line.memory_age) (line.copy_age n) ≡ cond (is_empty (cond b (Exclusive (after_op op line.line.header.memory)) (line.line.copy n))) 0 (cond b (suc line.top) (has_before n))
       copies n true e = ap suc memory_top

@@ -7,24 +7,22 @@ use Rattle.op_model.specs.declared.messages.NakCause.TheVariants.{Pending, NoLin
 use Rattle.op_model.specs.Nodes.{unlist}
 use Rattle.op_model.specs.Operations.{Words}
 use Rattle.op_model.specs.Messages.{Content, Get, FwdGet, Wb, Rpl, Put, Nak, ShWb, FAck, Nakc}
-use Rattle.op_model.specs.Lines.{Shared, Header, LineShare, Room, Outcome, For, no_message, is_empty, is_idle, is_pending, owner, words_of}
+use Rattle.op_model.specs.Lines.{Header, Room, Outcome, sending, no_message, is_empty, is_idle, is_pending, owner, words_of}
 use Rattle.op_model.specs.Tables.Home.{on_get, on_wb, on_rpl, on_shwb, on_fack, on_nakc, refuse, share_home_copy, share_memory, forward_get, lacks_link}
 use Rattle.op_model.specs.Tables.Remote.{is_invalidate}
 use Rattle.op_model.proofs.Plain.{eqb-self}
 use Rattle.line_invariant.specs.Line.{share_of}
 use Rattle.line_invariant.specs.Rows.{IsServedFor}
 use Rattle.line_invariant.proofs.Basics.{if-either}
-use Rattle.eager_model.specs.Ages.{LineAges, age_given, with_copy}
+use Rattle.eager_model.specs.Ages.{sent_age, with_copy}
 use Rattle.eager_model.specs.Line.{AgedLine, ages_of}
 use Rattle.eager_model.specs.Newest.{newest_age}
 use Rattle.eager_model.specs.Good.{IsSettled}
 use Rattle.eager_model.proofs.Taken.{left_line, first-age, newest-taken, rest-same, free-lane}
-use Rattle.eager_model.proofs.NewestRows.{AreSent, IsNewRow, newest-quiet, newest-for, given-home, given-memory, home-waits, home-memory, full-copy}
-use Rattle.eager_model.proofs.TakenRows.{Row, copy-same}
-
-at-one : (b : Bool) → b ≡ true → (given last : ℕ) → given ≡ cond b given last
-at-one true e given last = refl
-at-one false e given last = absurd (grind arith)
+use Rattle.eager_model.proofs.Sent.{AreSent}
+use Rattle.eager_model.proofs.NewestRows.{IsNewRow, newest-quiet, newest-for, given-home, given-memory, home-waits, home-memory}
+use Rattle.eager_model.proofs.SettledFacts.{copy-same, copy-newest, at-self}
+use Rattle.eager_model.proofs.TakenRows.{Row}
 
 held : (pending dirty local : Bool) → pending ≡ false → (dirty && local) ≡ true → (not pending && dirty && local) ≡ true
 held pending dirty local e f = grind arith
@@ -33,12 +31,12 @@ module _ (home : ℕ) (line : AgedLine) (settled : IsSettled home line) (from to
   -- a row that sends what has no age, where memory has this age after it
   plain-row : (content : Content) → line.line.lane from to class ≡ content ∷ rest → (header : Header) (sends : List (ℕ × Content)) (m : ℕ) → is_invalidate header.wait ≡ false → (header.dirty ≡ false → m ≡ line.top) →
       ((given : ℕ) → AreSent given line.top line.last sends) →
-      IsNewRow home to (left_line from to class rest ages line) (Rattle.op_model.specs.Lines.sending (record (share_of line.line to) { header = header }) sends) (record { copy = cond (is_empty (line.line.copy to)) 0 (line.copy_age to); memory = m })
+      IsNewRow home to (left_line from to class rest ages line) (sending (record (share_of line.line to) { header = header }) sends) (record { copy = cond (is_empty (line.line.copy to)) 0 (line.copy_age to); memory = m })
   plain-row content front header sends m waits memory sent =
       newest-quiet home to (left_line from to class rest ages line) (record (share_of line.line to) { header = header }) sends false
       (record { copy = cond (is_empty (line.line.copy to)) 0 (line.copy_age to); memory = m }) (newest-taken home line from to class content rest front age ages first settled.ages)
       (home-waits line header m (to == home) settled.settled waits)
-      (copy-same home line settled from to class rest age ages first (line.line.copy to) (λ e. e))
+      (copy-same home line settled to (line.line.copy to) (λ e. e))
       (sent _) (home-memory line header m home settled.ages (to == home) memory) (λ d e counted. counted)
 
   pub row-wb : (words : Words) → line.line.lane from to class ≡ Wb words ∷ rest → Row home line settled from to class rest age ages first (Wb words) (on_wb words (share_of line.line to))
@@ -70,8 +68,8 @@ module _ (home : ℕ) (line : AgedLine) (settled : IsSettled home line) (from to
   row-refuse content front cause m memory = plain-row content front line.line.header ((from, Nak cause) ∷ []) m settled.settled memory (λ given. (refl, tt))
 
   pub row-forward : (content : Content) → line.line.lane from to class ≡ content ∷ rest → (header : Header) (m x : ℕ) (asks : Content) → is_invalidate header.wait ≡ false → (header.dirty ≡ false → m ≡ line.top) →
-      ((given last : ℕ) → Rattle.eager_model.specs.Ages.sent_age given asks ≡ newest_age line.top last asks) →
-      IsNewRow home to (left_line from to class rest ages line) (Rattle.op_model.specs.Lines.sending (record (share_of line.line to) { header = header }) ((x, asks) ∷ [])) (record { copy = cond (is_empty (line.line.copy to)) 0 (line.copy_age to); memory = m })
+      ((given last : ℕ) → sent_age given asks ≡ newest_age line.top last asks) →
+      IsNewRow home to (left_line from to class rest ages line) (sending (record (share_of line.line to) { header = header }) ((x, asks) ∷ [])) (record { copy = cond (is_empty (line.line.copy to)) 0 (line.copy_age to); memory = m })
   row-forward content front header m x asks waits memory same = plain-row content front header ((x, asks) ∷ []) m waits memory (λ given. (same given (line.last x), tt))
 
   -- Get, where memory has this age after it
@@ -83,7 +81,7 @@ module _ (home : ℕ) (line : AgedLine) (settled : IsSettled home line) (from to
 
   module _ (on : (to == home) ≡ true) (front : line.line.lane from to class ≡ Get ∷ rest) where
     full : line.line.header.local ≡ true → line.copy_age to ≡ line.top
-    full local = full-copy (is_empty (line.line.copy to)) (line.copy_age to) line.top (settled.ages.copies to) (has (is_empty (line.line.copy to)) line.line.header.local here local)
+    full local = copy-newest home line settled to (has (is_empty (line.line.copy to)) line.line.header.local here local)
       where
         here : line.line.header.local ≡ not (is_empty (line.line.copy to))
         here = let is : to ≡ home = grind (arith, nat_tests) in settled.good.local ∙ ap (λ n. not (is_empty (line.line.copy n))) (sym is)
@@ -103,7 +101,7 @@ module _ (home : ℕ) (line : AgedLine) (settled : IsSettled home line) (from to
         (home-waits line (share_home_copy from (share_of line.line to)).share.header m (to == home) settled.settled settled.settled)
         (full (grind arith))
         (given-home (to == home) (share_of line.line to) (ages_of line to) (grind arith) ∙ full (grind arith))
-        (at-one (from == from) (eqb-self from) _ (line.last from), tt)
+        (at-self (from == from) (eqb-self from) _ (line.last from), tt)
         (home-memory line (share_home_copy from (share_of line.line to)).share.header m home settled.ages (to == home) (λ _. there (held (is_pending line.line.header) line.line.header.dirty line.line.header.local idle has)))
         refl (λ a k l. free l served.2 a k)
 
@@ -114,9 +112,9 @@ module _ (home : ℕ) (line : AgedLine) (settled : IsSettled home line) (from to
         (record { copy = cond (is_empty (line.line.copy to)) 0 (line.copy_age to); memory = m }) (newest-taken home line from to class Get rest front age ages first settled.ages)
         from line.line.header.memory refl
         (home-waits line (share_memory from (share_of line.line to)).share.header m (to == home) settled.settled settled.settled)
-        (copy-same home line settled from to class rest age ages first (line.line.copy to) (λ e. e))
+        (copy-same home line settled to (line.line.copy to) (λ e. e))
         (given-memory (to == home) (share_of line.line to) (ages_of line to) on is_clean ∙ settled.ages.memory is_clean)
-        (at-one (from == from) (eqb-self from) _ (line.last from), tt)
+        (at-self (from == from) (eqb-self from) _ (line.last from), tt)
         (home-memory line (share_memory from (share_of line.line to)).share.header m home settled.ages (to == home) clean)
         refl (λ a k l. free l served.2 a k)
 

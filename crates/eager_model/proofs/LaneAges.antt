@@ -1,11 +1,11 @@
 -- Two ways to tell the ages of the messages in a lane are one, where they agree on what is under way.
-use Rattle.std.proofs.Common.{◌≡◌, ℕ, Bool, true, false, cond, ◌==◌, ◌++◌, List, [], ◌∷◌, map, refl, ap, sym, ◌∙◌, Option, Some, None}
+use Rattle.std.proofs.Common.{◌≡◌, ℕ, Bool, true, false, cond, ◌==◌, ◌++◌, [], ◌∷◌, map, refl, ap, sym, ◌∙◌, Option, Some, None}
 use Rattle.eager_model.specs.Types.{Class, Request, Reply, Want}
 use Rattle.op_model.specs.Operations.{Words}
 use Rattle.op_model.specs.Messages.{Content, Get, GetX, FwdGet, FwdGetX, Inv, Wb, Rpl, Put, PutX, Nak, InvAck, ShWb, FAck, Nakc}
 use Rattle.op_model.specs.Lines.{Copy}
 use Rattle.line_invariant.specs.Good.{Status, Carrier, Resting, Asking, AskingX, Granted, Forwarded, Answered, Leaving, NotLeaving, WritesBack, Hints, Duty, NoDuty, Told, Acked, ToGive, Returned, Handed, Refused, IsCarried, expected, leaving_part, asking_part, answer_part, reply_part, told_part, is_put, is_write_answer, is_write_back}
-use Rattle.eager_model.proofs.Kept.{map-append}
+use Rattle.eager_model.proofs.Maps.{map-append, both-parts}
 
 -- a message with words
 abbrev pub has_age : Content → Bool
@@ -19,9 +19,6 @@ has_age _ = false
 abbrev pub is_returned : Duty → Bool
 is_returned (Returned words) = true
 is_returned _ = false
-
-both : {xs ys zs ws : List ℕ} → xs ≡ ys → zs ≡ ws → xs ++ zs ≡ ys ++ ws
-both e f = rw (e, f)
 
 one : (x y : ℕ) → x ≡ y → x ∷ [] ≡ y ∷ []
 one x y e = ap (λ n. n ∷ []) e
@@ -102,7 +99,7 @@ module _ (f g : Content → ℕ) (plain : (c : Content) → has_age c ≡ false 
           ≡ map g (cond at_home (leaving_part (status a).leaving ++ asking_part (status a).carrier) (cond from_home (told_part (status b).duty) []))
       request true from_home =
           map-append f (leaving_part (status a).leaving) (asking_part (status a).carrier)
-          ∙ both (same-leaving (status a).leaving leaves) (same-asking (status a).carrier)
+          ∙ both-parts (same-leaving (status a).leaving leaves) (same-asking (status a).carrier)
           ∙ sym (map-append g (leaving_part (status a).leaving) (asking_part (status a).carrier))
       request false true = same-told (status b).duty
       request false false = refl
@@ -115,5 +112,5 @@ module _ (f g : Content → ℕ) (plain : (c : Content) → has_age c ≡ false 
       reply : (at_home : Bool) → map f (answer_part a (status b).carrier ++ cond at_home (reply_part (status a).duty) []) ≡ map g (answer_part a (status b).carrier ++ cond at_home (reply_part (status a).duty) [])
       reply at_home =
           map-append f (answer_part a (status b).carrier) (cond at_home (reply_part (status a).duty) [])
-          ∙ both (same-answer a want copy (status b).carrier carried puts gives) (behind at_home)
+          ∙ both-parts (same-answer a want copy (status b).carrier carried puts gives) (behind at_home)
           ∙ sym (map-append g (answer_part a (status b).carrier) (cond at_home (reply_part (status a).duty) []))

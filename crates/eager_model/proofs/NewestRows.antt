@@ -1,51 +1,17 @@
 -- What a row at any node does to the ages of a line that doesn't drain: a row that serves nothing, one that serves, and one that begins an age.
-use Rattle.std.proofs.Common.{◌≡◌, ℕ, ◌≤◌, Bool, true, false, cond, ◌==◌, ◌&&◌, ◌++◌, List, [], ◌∷◌, map, refl, arith, ap, sym, ◌∙◌, subst}
+use Rattle.std.proofs.Common.{◌≡◌, ℕ, ◌≤◌, Bool, true, false, cond, ◌==◌, ◌&&◌, List, [], ◌∷◌, map, refl, arith, ap, sym, ◌∙◌, subst}
 use Rattle.std.proofs.lemmas.Bool.Decides.{nat_tests}
 use Rattle.eager_model.specs.Types.{Class, Op}
 use Rattle.op_model.specs.Operations.{Words, is_load}
-use Rattle.op_model.specs.Messages.{Content, class_of, same_class}
+use Rattle.op_model.specs.Messages.{Content}
 use Rattle.op_model.specs.Lines.{Header, LineShare, Service, NoService, Own, For, Outcome, is_empty}
 use Rattle.op_model.specs.Tables.Remote.{is_invalidate}
 use Rattle.line_invariant.specs.Line.{share_of, addressed}
 use Rattle.eager_model.specs.Ages.{LineAges, sent_age, age_given, served_age}
 use Rattle.eager_model.specs.Line.{AgedLine, ages_of, aged_row, greater, begun_age}
 use Rattle.eager_model.specs.Newest.{AreNewest, newest_age, counts}
-use Rattle.eager_model.proofs.Kept.{map-append}
-
--- each message that is sent has the age that it has under way
-abbrev pub AreSent : ℕ → ℕ → (ℕ → ℕ) → List (ℕ × Content) → Type 0
-AreSent given top last [] = Unit {0}
-AreSent given top last (send ∷ sends) = (sent_age given send.1 ≡ newest_age top (last send.0) send.1) × AreSent given top last sends
-
-pub sent-ages : (given top : ℕ) (last : ℕ → ℕ) (sends : List (ℕ × Content)) → AreSent given top last sends → (b : ℕ) (class : Class) → map (sent_age given) (addressed b class sends) ≡ map (newest_age top (last b)) (addressed b class sends)
-sent-ages given top last [] are b class = refl
-sent-ages given top last (send ∷ sends) are b class = go ((send.0 == b) && same_class class (class_of send.1)) refl (sent-ages given top last sends are.1 b class)
-  where
-    go : (c : Bool) → ((send.0 == b) && same_class class (class_of send.1)) ≡ c → map (sent_age given) (addressed b class sends) ≡ map (newest_age top (last b)) (addressed b class sends) →
-        map (sent_age given) (cond c (send.1 ∷ addressed b class sends) (addressed b class sends)) ≡ map (newest_age top (last b)) (cond c (send.1 ∷ addressed b class sends) (addressed b class sends))
-    go false e same = same
-    go true e same =
-        let to : send.0 ≡ b = grind (arith, nat_tests) in
-        let here : sent_age given send.1 ≡ newest_age top (last b) send.1 = subst (λ n. sent_age given send.1 ≡ newest_age top (last n) send.1) to are.0 in
-        rw (here, same)
-
-newest-within : (top last : ℕ) (content : Content) → last ≤ top → newest_age top last content ≤ top
-newest-within top last content le = grind arith
-
-greater-within : (x y top : ℕ) → x ≤ top → y ≤ top → greater x y ≤ top
-greater-within x y top a b = grind (arith, nat_tests)
-
-begun-within : (given top : ℕ) (last : ℕ → ℕ) → ((node : ℕ) → last node ≤ top) → (sends : List (ℕ × Content)) → AreSent given top last sends → begun_age given sends ≤ top
-begun-within given top last past [] are = grind arith
-begun-within given top last past (send ∷ sends) are =
-    greater-within (sent_age given send.1) (begun_age given sends) top (subst (λ n. n ≤ top) (sym are.0) (newest-within top (last send.0) send.1 (past send.0))) (begun-within given top last past sends are.1)
-
-top-kept : (top copy begun : ℕ) → copy ≤ top → begun ≤ top → greater top (greater copy begun) ≡ top
-top-kept top copy begun a b = grind (arith, nat_tests)
-
-copy-within : (c : Bool) (copy top : ℕ) → copy ≡ cond c 0 top → copy ≤ top
-copy-within true copy top e = grind arith
-copy-within false copy top e = grind arith
+use Rattle.eager_model.proofs.Sent.{AreSent, sent-ages, begun-within, top-kept, copy-within}
+use Rattle.eager_model.proofs.Maps.{map-append, both-parts}
 
 -- an operation has the greatest age, which a load doesn't raise
 abbrev pub IsAtTop : ℕ → ℕ → Service → ℕ → Type 0
@@ -80,7 +46,7 @@ module _ (home me : ℕ) (line : AgedLine) (row : Outcome) (ages : LineAges) (go
       record {
         copies = λ node. copies node (node == me) refl ∙ ap (λ t. cond (is_empty (next_line.line.copy node)) 0 t) (sym same);
         lanes = λ a b class.
-            both (good.lanes a b class ∙ lanes a b class) (behind b class (a == me))
+            both-parts (good.lanes a b class ∙ lanes a b class) (behind b class (a == me))
             ∙ sym (map-append (newest_age top (last b)) (line.line.lane a b class) (cond (a == me) (addressed b class row.sends) []))
             ∙ ap (λ t. map (newest_age t (last b)) (next_line.line.lane a b class)) (sym same)
             ∙ ap (λ l. map (newest_age next_line.top l) (next_line.line.lane a b class)) (sym (lasts b));
@@ -89,9 +55,6 @@ module _ (home me : ℕ) (line : AgedLine) (row : Outcome) (ages : LineAges) (go
         served = λ node e counted. lasts node ∙ served node e counted ∙ sym same;
       }
     where
-      both : {xs ys zs ws : List ℕ} → xs ≡ ys → zs ≡ ws → xs ++ zs ≡ ys ++ ws
-      both e f = rw (e, f)
-
       behind : (b : ℕ) (class : Class) (c : Bool) → cond c (map (sent_age given_by) (addressed b class row.sends)) [] ≡ map (newest_age top (last b)) (cond c (addressed b class row.sends) [])
       behind b class true = sent-ages given_by top last row.sends sends b class
       behind b class false = refl

@@ -1,5 +1,5 @@
 -- E2 keeps a line good: a node is given a clean line, begins an age, and the shared copies become the older ones.
-use Rattle.std.proofs.Common.{◌≡◌, ◌≢◌, ◌⊎◌, ℕ, suc, ◌≤◌, Bool, true, false, cond, nat_lt, ◌==◌, ◌&&◌, ◌||◌, ◌++◌, List, [], ◌∷◌, map, refl, arith, ap, sym, ◌∙◌, inl, inr}
+use Rattle.std.proofs.Common.{◌≡◌, ◌≢◌, ◌⊎◌, ℕ, suc, ◌≤◌, Bool, true, false, cond, nat_lt, ◌==◌, ◌&&◌, ◌||◌, List, [], ◌∷◌, map, refl, arith, ap, sym, ◌∙◌, inl, inr}
 use Rattle.std.proofs.lemmas.Bool.Decides.{nat_tests}
 use Rattle.eager_model.specs.Types.{Class, Request}
 use Rattle.op_model.specs.Nodes.{Nodes, listed, unlist, in_order, listings}
@@ -19,7 +19,8 @@ use Rattle.eager_model.specs.Ages.{with_copy, sent_age, age_given}
 use Rattle.eager_model.specs.Line.{AgedLine, ages_of, aged_row, greater, begun_age, taken_age}
 use Rattle.eager_model.specs.Good.{IsSettled, IsDraining, IsAgeIn, AreAges, has_words, draining_role, message_age}
 use Rattle.eager_model.proofs.Newest.{had, ages-of-newest}
-use Rattle.eager_model.proofs.Kept.{map-append, calls-begin-none, any-words, kept-lane}
+use Rattle.eager_model.proofs.Maps.{map-append, both-parts}
+use Rattle.eager_model.proofs.Kept.{calls-begin-none, any-words, kept-lane}
 use Rattle.eager_model.proofs.GivenLanes.{given_and_told, lanes-given, given-ages, node-given, node-told, asking-bare}
 
 module _ (home : ℕ) (line : AgedLine) (newest : line.words_at line.top ≡ line.line.words) (settled : IsSettled home line) (p : ℕ) (apart : p ≢ home)
@@ -162,7 +163,7 @@ module _ (home : ℕ) (line : AgedLine) (newest : line.words_at line.top ≡ lin
 
       lanes : (a b : ℕ) (class : Class) → next.lane_age a b class ≡ map (message_age next.top has a b) (next.line.lane a b class)
       lanes a b class =
-          both (after-taken a b class ((a == p) && (b == home) && same_class class Request)) (called (a == home))
+          both-parts (after-taken a b class ((a == p) && (b == home) && same_class class Request)) (called (a == home))
           ∙ sym (map-append (message_age next.top has a b) (taken p home Request rest line.line.lane a b class) (cond (a == home) (addressed b class ((p, PutX line.line.header.memory) ∷ to_listed list)) []))
         where
           called : (h : Bool) → cond h (map (sent_age (age_given (home == home) (share_of line.line home) (ages_of line home))) (addressed b class ((p, PutX line.line.header.memory) ∷ to_listed list))) [] ≡ map (message_age next.top has a b) (cond h (addressed b class ((p, PutX line.line.header.memory) ∷ to_listed list)) [])
@@ -171,9 +172,6 @@ module _ (home : ℕ) (line : AgedLine) (newest : line.words_at line.top ≡ lin
               own : has p ≡ suc line.top
               own = let is : (p == p) ≡ true = eqb-self p in let off : (p == home) ≡ false = ne_eqb p home apart in rw (is, off)
           called false = refl
-
-          both : {xs ys zs ws : List ℕ} → xs ≡ ys → zs ≡ ws → xs ++ zs ≡ ys ++ ws
-          both e f = rw (e, f)
 
       copies : (n : ℕ) (h b : Bool) → (n == home) ≡ h → (n == p) ≡ b → cond h 0 (line.copy_age n) ≡ cond (is_empty (cond h Absent (line.line.copy n))) 0 (cond (h || b) (suc line.top) (has_before n))
       copies n true b e f = refl

@@ -1,15 +1,16 @@
 -- Beginning an operation on a line that doesn't drain keeps it good: it stays settled, but where the home writes to a line that others share, E1.
-use Rattle.std.proofs.Common.{◌≡◌, ℕ, suc, Bool, true, false, cond, ◌==◌, ◌&&◌, not, List, [], ◌∷◌, refl, arith, ap, sym, ◌∙◌, subst, inl, Result, Ok, Err, None}
+use Rattle.std.proofs.Common.{◌≡◌, ℕ, suc, Bool, true, false, cond, ◌==◌, ◌&&◌, not, [], ◌∷◌, refl, arith, ap, sym, ◌∙◌, subst, inl, Result, Ok, Err, None}
 use Rattle.std.proofs.lemmas.Bool.Decides.{nat_tests}
 use Rattle.eager_model.specs.Types.{Cause, Op}
 use Rattle.op_model.specs.declared.state.Wait.TheVariants.{ForwardGet, ForwardGetX}
 use Rattle.op_model.specs.Nodes.{Nodes, listed, count, none, in_order, none_of_count, listed-none}
 use Rattle.op_model.specs.Operations.{is_load}
 use Rattle.op_model.specs.Messages.{Content, Get, GetX, FwdGet, FwdGetX}
-use Rattle.op_model.specs.Lines.{Copy, Header, Room, Outcome, Own, sending, no_message, begun, is_empty, is_pending, nobody_listed, owner, without_shared, to_each}
+use Rattle.op_model.specs.Lines.{Copy, Header, Room, Outcome, Own, sending, no_message, begun, is_empty, is_pending, nobody_listed, owner, without_shared}
 use Rattle.op_model.specs.Tables.Processor.{serves, ask, load_at_home, write_at_home, invalidate_for_home, forward_get_home, forward_getx_home, begin_at_home}
 use Rattle.op_model.specs.Tables.Processor as delayed
 use Rattle.op_model.specs.Tables.Remote.{is_invalidate}
+use Rattle.op_model.specs.Events.Node.{map_ok}
 use Rattle.op_model.proofs.Plain.{err-ok}
 use Rattle.line_invariant.specs.Line.{share_of}
 use Rattle.line_invariant.specs.Good.{IsGoodHeader, Clean}
@@ -19,26 +20,24 @@ use Rattle.line_invariant.proofs.HomeRows.{clean-phase}
 use Rattle.line_invariant.proofs.Locals.{good-begin}
 use Rattle.line_invariant.proofs.Served.{idle-answered}
 use Rattle.eager_model.specs.Rows.{begin_op, write_and_drain, writes_shared}
-use Rattle.eager_model.specs.Ages.{LineAges, age_given, ages_begun, with_copy}
-use Rattle.eager_model.specs.Line.{AgedLine, ages_of, aged_row, greater, begun_age}
+use Rattle.eager_model.specs.Ages.{sent_age, ages_begun, with_copy}
+use Rattle.eager_model.specs.Line.{AgedLine, ages_of, aged_row}
 use Rattle.eager_model.specs.Newest.{newest_age}
 use Rattle.eager_model.specs.Served.{IsServedAt, age_served}
 use Rattle.eager_model.specs.Good.{IsSettled, IsEagerGood}
-use Rattle.eager_model.proofs.Kept.{calls-begin-none}
+use Rattle.eager_model.proofs.Kept.{raised-called}
 use Rattle.eager_model.proofs.HomeWrites.{good-home-write}
+use Rattle.eager_model.proofs.SettledFacts.{copy-same}
 use Rattle.eager_model.proofs.Taken.{free-lane}
 use Rattle.eager_model.proofs.ServedAt.{above, own-well, served-at}
 use Rattle.eager_model.proofs.NewestRows.{IsNewRow, newest-quiet, newest-own, home-waits, home-memory}
 use Rattle.eager_model.proofs.Begins.{IsAlone, newest-written}
 use Rattle.eager_model.proofs.Alone.{alone-memory}
 use Rattle.eager_model.proofs.TakenRows.{kept-full}
-use Rattle.eager_model.proofs.SettledLocals.{settled-row, copy-kept}
+use Rattle.eager_model.proofs.SettledLocals.{settled-row}
 
 nobody : (list : Nodes) (n : ℕ) → nobody_listed list ≡ true → listed list n ≡ false
 nobody list n e = let zero : count list ≡ 0 = grind (arith, nat_tests) in let gone : list ≡ none = none_of_count list zero in ap (λ s. listed s n) gone ∙ listed-none n
-
-raised-called : (top memory given : ℕ) (xs : List ℕ) → memory ≡ top → greater top (greater (suc memory) (begun_age given (to_each xs))) ≡ suc top
-raised-called top memory given xs e = let none = calls-begin-none given xs in grind (arith, nat_tests)
 
 -- the tests of E1
 drains-not : (home dirty load nobody : Bool) → home ≡ true → dirty ≡ false → load ≡ false → nobody ≡ false → (home && (not dirty && not load && not nobody)) ≡ true
@@ -53,11 +52,11 @@ module _ (home : ℕ) (line : AgedLine) (settled : IsSettled home line) (me : �
 
   -- a row that only asks
   asking : (copy : Copy) (header : Header) (x : ℕ) (content : Content) → (is_empty copy ≡ false → is_empty (line.line.copy me) ≡ false) → is_invalidate header.wait ≡ false → header.dirty ≡ line.line.header.dirty →
-      ((given last : ℕ) → Rattle.eager_model.specs.Ages.sent_age given content ≡ newest_age line.top last content) →
+      ((given last : ℕ) → sent_age given content ≡ newest_age line.top last content) →
       IsNewRow home me line (sending (record { copy = copy; want = begun op; header = header }) ((x, content) ∷ [])) (with_copy copy (ages_of line me))
   asking copy header x content full waits same plain =
       newest-quiet home me line (record { copy = copy; want = begun op; header = header }) ((x, content) ∷ []) false (with_copy copy (ages_of line me)) settled.ages
-      (home-waits line header line.memory_age (me == home) settled.settled waits) (copy-kept home line settled me copy full) (plain _ (line.last x), tt)
+      (home-waits line header line.memory_age (me == home) settled.settled waits) (copy-same home line settled me copy full) (plain _ (line.last x), tt)
       (home-memory line header line.memory_age home settled.ages (me == home) (λ clean. settled.ages.memory (sym same ∙ clean))) (λ d e counted. absurd (let no : true ≡ false = sym e ∙ not_yet in grind arith))
 
   -- P3
@@ -176,6 +175,6 @@ module _ (home : ℕ) (line : AgedLine) (settled : IsSettled home line) (me : �
           by row e false f = settles row f e
           by row e true f = drains (grind (arith, nat_tests)) (idle-there row (grind arith) e) (grind arith) (grind arith) (grind arith)
 
-          go : (r : Result Outcome Cause) → delayed.begin_op me home room op (share_of line.line me) ≡ r → Rattle.op_model.specs.Events.Node.map_ok (λ row. cond ((me == home) && writes_shared op line.line.header) (write_and_drain home op (share_of line.line me)) row) r ≡ Ok o → Fine o
+          go : (r : Result Outcome Cause) → delayed.begin_op me home room op (share_of line.line me) ≡ r → map_ok (λ row. cond ((me == home) && writes_shared op line.line.header) (write_and_drain home op (share_of line.line me)) row) r ≡ Ok o → Fine o
           go (Ok row) e is = let same : cond ((me == home) && writes_shared op line.line.header) (write_and_drain home op (share_of line.line me)) row ≡ o = cc in subst Fine same (by row e ((me == home) && writes_shared op line.line.header) refl)
           go (Err cause) e is = absurd (err-ok cause o is)

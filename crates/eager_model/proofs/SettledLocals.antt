@@ -18,27 +18,17 @@ use Rattle.eager_model.specs.Line.{AgedLine, ages_of, aged_row}
 use Rattle.eager_model.specs.Served.{IsServedAt, age_served}
 use Rattle.eager_model.specs.Good.{IsSettled, IsEagerGood}
 use Rattle.eager_model.proofs.Quiet.{at-top}
+use Rattle.eager_model.proofs.SettledFacts.{same-waits, same-memory, copy-newest}
 use Rattle.eager_model.proofs.Taken.{free-lane}
 use Rattle.eager_model.proofs.ServedAt.{above, served-at}
-use Rattle.eager_model.proofs.NewestRows.{AreSent, IsNewRow, newest-quiet, newest-own, given-copy, home-waits, home-memory, kept-copy, full-copy}
+use Rattle.eager_model.proofs.Sent.{AreSent}
+use Rattle.eager_model.proofs.NewestRows.{IsNewRow, newest-quiet, newest-own, given-copy, home-waits, home-memory}
 
 -- a row that keeps the line settled keeps it good
 pub settled-row : (home me : ℕ) (line : AgedLine) (row : Outcome) (ages : LineAges) → IsGood home (after_row home me row line.line) → IsNewRow home me line row ages → IsEagerGood home (aged_row home me row ages line)
 settled-row home me line row ages good is = record { newest = at-top line.words_at _ _; stands = inl (record { good = good; settled = is.waits; ages = is.newest }) }
 
 module _ (home : ℕ) (line : AgedLine) (settled : IsSettled home line) (me : ℕ) where
-  kept-waits : is_invalidate (cond (me == home) line.line.header line.line.header).wait ≡ false
-  kept-waits = home-waits line line.line.header line.memory_age (me == home) settled.settled settled.settled
-
-  kept-memory : (cond (me == home) line.line.header line.line.header).dirty ≡ false → cond (me == home) line.memory_age line.memory_age ≡ line.top
-  kept-memory = home-memory line line.line.header line.memory_age home settled.ages (me == home) settled.ages.memory
-
-  pub copy-kept : (c : Copy) → (is_empty c ≡ false → is_empty (line.line.copy me) ≡ false) → cond (is_empty c) 0 (line.copy_age me) ≡ cond (is_empty c) 0 line.top
-  copy-kept c full = kept-copy (is_empty (line.line.copy me)) (is_empty c) (line.copy_age me) line.top (settled.ages.copies me) full
-
-  pub full-kept : is_empty (line.line.copy me) ≡ false → line.copy_age me ≡ line.top
-  full-kept full = full-copy (is_empty (line.line.copy me)) (line.copy_age me) line.top (settled.ages.copies me) full
-
   module _ (op : Op) (serve : serves op (line.line.copy me) ≡ true) where
     -- who has a copy waits for nothing
     unanswered : line.line.answered me ≡ false
@@ -59,7 +49,7 @@ module _ (home : ℕ) (line : AgedLine) (settled : IsSettled home line) (me : �
     hit-row =
         let full = served-full (line.line.copy me) serve in
         newest-own home me line (record (share_of line.line me) { copy = done_on op (line.line.copy me) }) no_message true (with_copy (done_on op (line.line.copy me)) (ages_of line me)) settled.ages
-        op (words_of (line.line.copy me)) refl refl kept-waits full.1 (ap (λ c. cond c 0 (line.copy_age me)) full.1 ∙ full-kept full.0) kept-memory
+        op (words_of (line.line.copy me)) refl refl (same-waits home line settled me) full.1 (ap (λ c. cond c 0 (line.copy_age me)) full.1 ∙ copy-newest home line settled me full.0) (same-memory home line settled me)
         (λ a k l. free-lane home line settled.good me unanswered line.top (line.last me) l a k)
 
     pub good-settled-hit : IsEagerGood home (aged_row home me (hit op (share_of line.line me)) (with_copy (hit op (share_of line.line me)).share.copy (ages_of line me)) line)
@@ -88,7 +78,7 @@ module _ (home : ℕ) (line : AgedLine) (settled : IsSettled home line) (me : �
           IsNewRow home me line (leave_home copy (record (share_of line.line me) { copy = copy })) (with_copy (leave_home copy (record (share_of line.line me) { copy = copy })).share.copy (cond (b && is_exclusive copy) (record (ages_of line me) { memory = line.copy_age me }) (ages_of line me)))
       by true e Absent f = at_home Absent line.line.header line.memory_age settled.settled settled.ages.memory refl
       by true e (Shared words) f = at_home Absent (record line.line.header { local = false }) line.memory_age settled.settled settled.ages.memory refl
-      by true e (Exclusive words) f = at_home Absent (record line.line.header { local = false; dirty = false; memory = words }) (line.copy_age me) settled.settled (λ _. full-kept (ap is_empty f)) refl
+      by true e (Exclusive words) f = at_home Absent (record line.line.header { local = false; dirty = false; memory = words }) (line.copy_age me) settled.settled (λ _. copy-newest home line settled me (ap is_empty f)) refl
       by false e copy f = absurd (grind arith)
 
   fits-full : (kind : EvictKind) (copy : Copy) → fits false kind copy ≡ true → is_empty copy ≡ false
@@ -103,14 +93,14 @@ module _ (home : ℕ) (line : AgedLine) (settled : IsSettled home line) (me : �
           quiet : (m : ℕ) → m ≡ line.memory_age → IsNewRow home me line (sending (record (share_of line.line me) { copy = Absent }) sends) (record { copy = 0; memory = m })
           quiet m e =
               newest-quiet home me line (record (share_of line.line me) { copy = Absent }) sends false (record { copy = 0; memory = m }) settled.ages
-              kept-waits refl sent (home-memory line line.line.header m home settled.ages (me == home) (λ clean. e ∙ settled.ages.memory clean)) (λ d e counted. counted)
+              (same-waits home line settled me) refl sent (home-memory line line.line.header m home settled.ages (me == home) (λ clean. e ∙ settled.ages.memory clean)) (λ d e counted. counted)
 
           go : (b : Bool) → b ≡ false → IsNewRow home me line (sending (record (share_of line.line me) { copy = Absent }) sends) (with_copy Absent (cond (b && is_exclusive (line.line.copy me)) (record (ages_of line me) { memory = line.copy_age me }) (ages_of line me)))
           go false e = quiet line.memory_age refl
           go true e = absurd (grind arith)
 
       given : age_given (me == home) (share_of line.line me) (ages_of line me) ≡ line.top
-      given = given-copy (me == home) (share_of line.line me) (ages_of line me) off ∙ full-kept (fits-full kind (line.line.copy me) fit)
+      given = given-copy (me == home) (share_of line.line me) (ages_of line me) off ∙ copy-newest home line settled me (fits-full kind (line.line.copy me) fit)
 
       by : (kind : EvictKind) → LeftRow (leave_remote home kind (share_of line.line me))
       by way.Wb = away ((home, Wb (words_of (line.line.copy me))) ∷ []) (given, tt)

@@ -20,7 +20,7 @@ use Rattle.line_invariant.proofs.RemoteRows.{answered}
 use Rattle.line_invariant.proofs.MeetsRow.{meets-take}
 use Rattle.line_invariant.proofs.Served.{served-take}
 use Rattle.eager_model.specs.Rows.{asks_shared, meets, row_of, on_getx, on_message}
-use Rattle.eager_model.specs.Ages.{ages_taken, with_copy}
+use Rattle.eager_model.specs.Ages.{age_given, served_age}
 use Rattle.eager_model.specs.Line.{AgedLine, ages_of, ages_after_take, row_taken, after_take}
 use Rattle.eager_model.specs.Served.{IsServedAt, age_taken}
 use Rattle.eager_model.specs.Good.{IsSettled, IsEagerGood}
@@ -209,7 +209,7 @@ module _ (home : ℕ) (line : AgedLine) (settled : IsSettled home line) (from to
               let none : (row_taken home from to content room line.line).served ≡ NoService = rw (getx-only content e) (getx-serves to home from (is_empty (line.line.copy to)) room (share_of line.line to)) in
               none-served (row_taken home from to content room line.line).served none
             where
-              none-served : (service : Service) → service ≡ NoService → IsServedAt line to (after_take home from to class content rest age ages room line).top service (Rattle.eager_model.specs.Ages.served_age (Rattle.eager_model.specs.Ages.age_given (to == home) (share_of line.line to) (ages_of line to)) (ages_after_take home from to content age room line).copy service)
+              none-served : (service : Service) → service ≡ NoService → IsServedAt line to (after_take home from to class content rest age ages room line).top service (served_age (age_given (to == home) (share_of line.line to) (ages_of line to)) (ages_after_take home from to content age room line).copy service)
               none-served NoService e = tt
               none-served (Own op on) e = absurd (grind arith)
               none-served (For n on) e = absurd (grind arith)

@@ -18,8 +18,10 @@ use Rattle.eager_model.specs.Ages.{age_given, ages_taken, with_copy}
 use Rattle.eager_model.specs.Line.{AgedLine, ages_of}
 use Rattle.eager_model.specs.Newest.{newest_age, is_unmarked}
 use Rattle.eager_model.specs.Good.{IsSettled}
+use Rattle.eager_model.proofs.SettledFacts.{same-waits, same-memory, copy-same, copy-newest, at-self}
 use Rattle.eager_model.proofs.Taken.{left_line, first-age, newest-taken, rest-same, free-lane}
-use Rattle.eager_model.proofs.NewestRows.{AreSent, IsNewRow, newest-quiet, newest-for, newest-own, given-copy, home-waits, away-memory, home-memory, kept-copy, full-copy}
+use Rattle.eager_model.proofs.Sent.{AreSent}
+use Rattle.eager_model.proofs.NewestRows.{IsNewRow, newest-quiet, newest-for, newest-own, given-copy, home-waits, away-memory, home-memory}
 
 none-counts : (b x : Bool) → (b || false) ≡ true → (b || x) ≡ true
 none-counts b x e = grind arith
@@ -44,35 +46,26 @@ module _ (home : ℕ) (line : AgedLine) (settled : IsSettled home line) (from to
   abbrev pub Row : Content → Outcome → Type 0
   Row content o = IsNewRow home to (left_line from to class rest ages line) o (with_copy o.share.copy (ages_taken (to == home) age content (share_of line.line to) (ages_of line to)))
 
-  pub copy-same : (c : Copy) → (is_empty c ≡ false → is_empty (line.line.copy to) ≡ false) → cond (is_empty c) 0 (line.copy_age to) ≡ cond (is_empty c) 0 line.top
-  copy-same c full = kept-copy (is_empty (line.line.copy to)) (is_empty c) (line.copy_age to) line.top (settled.ages.copies to) full
-
-  same-waits : is_invalidate (cond (to == home) line.line.header line.line.header).wait ≡ false
-  same-waits = home-waits line line.line.header line.memory_age (to == home) settled.settled settled.settled
-
-  same-memory : (cond (to == home) line.line.header line.line.header).dirty ≡ false → cond (to == home) line.memory_age line.memory_age ≡ line.top
-  same-memory = home-memory line line.line.header line.memory_age home settled.ages (to == home) settled.ages.memory
-
   pub row-nak : (cause : NakCause) → line.line.lane from to class ≡ Nak cause ∷ rest → Row (Nak cause) (on_nak (share_of line.line to))
   unfolding on_nak
   row-nak cause front =
       newest-quiet home to (left_line from to class rest ages line) (record (share_of line.line to) { want = None }) no_message false
       (with_copy (line.line.copy to) (ages_of line to)) (newest-taken home line from to class (Nak cause) rest front age ages first settled.ages)
-      same-waits (copy-same (line.line.copy to) (λ e. e)) tt same-memory (λ d e. none-counts (to == home) (is_unmarked (line.line.want to)))
+      (same-waits home line settled to) (copy-same home line settled to (line.line.copy to) (λ e. e)) tt (same-memory home line settled to) (λ d e. none-counts (to == home) (is_unmarked (line.line.want to)))
 
   pub row-inv : line.line.lane from to class ≡ Inv ∷ rest → Row Inv (on_inv home (share_of line.line to))
   unfolding on_inv
   row-inv front =
       newest-quiet home to (left_line from to class rest ages line) (record (share_of line.line to) { copy = without_shared (line.line.copy to); want = marked_load (line.line.want to) }) ((home, InvAck) ∷ []) false
       (with_copy (without_shared (line.line.copy to)) (ages_of line to)) (newest-taken home line from to class Inv rest front age ages first settled.ages)
-      same-waits (copy-same (without_shared (line.line.copy to)) (kept-full (line.line.copy to))) (refl, tt) same-memory (λ d e. marked-counts (line.line.want to) (to == home))
+      (same-waits home line settled to) (copy-same home line settled to (without_shared (line.line.copy to)) (kept-full (line.line.copy to))) (refl, tt) (same-memory home line settled to) (λ d e. marked-counts (line.line.want to) (to == home))
 
   pub row-gone : (content : Content) → line.line.lane from to class ≡ content ∷ rest → (r : ℕ) →
       IsNewRow home to (left_line from to class rest ages line) (gone home r (share_of line.line to)) (with_copy (line.line.copy to) (ages_of line to))
   row-gone content front r =
       newest-quiet home to (left_line from to class rest ages line) (share_of line.line to) ((r, Nak Gone) ∷ (home, Nakc) ∷ []) false
       (with_copy (line.line.copy to) (ages_of line to)) (newest-taken home line from to class content rest front age ages first settled.ages)
-      same-waits (copy-same (line.line.copy to) (λ e. e)) (refl, (refl, tt)) same-memory (λ d e counted. counted)
+      (same-waits home line settled to) (copy-same home line settled to (line.line.copy to) (λ e. e)) (refl, (refl, tt)) (same-memory home line settled to) (λ d e counted. counted)
 
   -- an owner shares its copy
   pub row-fwd : (r : ℕ) → line.line.lane from to class ≡ FwdGet r ∷ rest → (to == home) ≡ false → (is_exclusive (line.line.copy to) ≡ true → line.line.answered r ≡ false) → Row (FwdGet r) (on_fwd_get home r (share_of line.line to))
@@ -90,27 +83,19 @@ module _ (home : ℕ) (line : AgedLine) (settled : IsSettled home line) (from to
           newest-for home to (left_line from to class rest ages line) (record (share_of line.line to) { copy = Shared (words_of (line.line.copy to)) })
           (cond (r == home) ((home, Put (words_of (line.line.copy to))) ∷ []) ((r, Put (words_of (line.line.copy to))) ∷ (home, ShWb (words_of (line.line.copy to))) ∷ [])) false
           (with_copy (Shared (words_of (line.line.copy to))) (ages_of line to)) (newest-taken home line from to class (FwdGet r) rest front age ages first settled.ages)
-          r (words_of (line.line.copy to)) refl same-waits full given (sent (r == home) refl) same-memory refl
+          r (words_of (line.line.copy to)) refl (same-waits home line settled to) full given (sent (r == home) refl) (same-memory home line settled to) refl
           (λ a k l. rest-same home line from to class (FwdGet r) rest front (newest_age line.top (line.last r)) (newest_age line.top l) r (λ a k. free-lane home line settled.good r (waits held) line.top (line.last r) l a k) a k)
         where
           full : line.copy_age to ≡ line.top
-          full = full-copy (is_empty (line.line.copy to)) (line.copy_age to) line.top (settled.ages.copies to) (exclusive-full (line.line.copy to) held)
+          full = copy-newest home line settled to (exclusive-full (line.line.copy to) held)
 
           given : age_given (to == home) (share_of line.line to) (ages_of line to) ≡ line.top
           given = given-copy (to == home) (share_of line.line to) (ages_of line to) off ∙ full
 
           sent : (c : Bool) → (r == home) ≡ c → AreSent (age_given (to == home) (share_of line.line to) (ages_of line to)) line.top (λ b. cond (b == r) (age_given (to == home) (share_of line.line to) (ages_of line to)) (line.last b))
               (cond c ((home, Put (words_of (line.line.copy to))) ∷ []) ((r, Put (words_of (line.line.copy to))) ∷ (home, ShWb (words_of (line.line.copy to))) ∷ []))
-          sent true e = let is : (home == r) ≡ true = grind (arith, nat_tests) in (at-one (home == r) is (line.last home), tt)
-            where
-              at-one : (b : Bool) → b ≡ true → (l : ℕ) → age_given (to == home) (share_of line.line to) (ages_of line to) ≡ cond b (age_given (to == home) (share_of line.line to) (ages_of line to)) l
-              at-one true e l = refl
-              at-one false e l = absurd (grind arith)
-          sent false e = (at-one (r == r) (eqb-self r) (line.last r), (given, tt))
-            where
-              at-one : (b : Bool) → b ≡ true → (l : ℕ) → age_given (to == home) (share_of line.line to) (ages_of line to) ≡ cond b (age_given (to == home) (share_of line.line to) (ages_of line to)) l
-              at-one true e l = refl
-              at-one false e l = absurd (grind arith)
+          sent true e = let is : (home == r) ≡ true = grind (arith, nat_tests) in (at-self (home == r) is _ (line.last home), tt)
+          sent false e = (at-self (r == r) (eqb-self r) _ (line.last r), (given, tt))
 
   -- words for a load
   pub row-put : (words : Words) → line.line.lane from to class ≡ Put words ∷ rest → is_empty (line.line.copy to) ≡ true → Row (Put words) (on_put (to == home) words (share_of line.line to))
@@ -142,7 +127,7 @@ module _ (home : ℕ) (line : AgedLine) (settled : IsSettled home line) (from to
       away off =
           newest-quiet home to (left_line from to class rest ages line) (record (share_of line.line to) { copy = put_copy words (line.line.copy to) (line.line.want to); want = None }) no_message true
           (with_copy (put_copy words (line.line.copy to) (line.line.want to)) (record { copy = age; memory = cond (to == home) age line.memory_age })) (newest-taken home line from to class (Put words) rest front age ages first settled.ages)
-          same-waits (copy (is_empty (put_copy words (line.line.copy to) (line.line.want to))) refl) tt
+          (same-waits home line settled to) (copy (is_empty (put_copy words (line.line.copy to) (line.line.want to))) refl) tt
           (away-memory line line.line.header (cond (to == home) age line.memory_age) home settled.ages (to == home) off) (λ d e. absurd (grind arith))
         where
           counted : (b x : Bool) → x ≡ true → (b || x) ≡ true
