@@ -1,4 +1,4 @@
--- What a row at any node does to the ages of a line that doesn't drain: a row that serves nothing, one that serves, and one that begins an age.
+-- What a row at any node does to the ages of a line that doesn't drain: any row, one that serves nothing, one that serves the load of another node, and one of the node's own operation.
 use Rattle.std.proofs.Common.{◌≡◌, ℕ, ◌≤◌, Bool, true, false, cond, ◌==◌, ◌&&◌, List, [], ◌∷◌, map, refl, arith, ap, sym, ◌∙◌, subst}
 use Rattle.std.proofs.lemmas.Bool.Decides.{nat_tests}
 use Rattle.eager_model.specs.Types.{Class, Op}

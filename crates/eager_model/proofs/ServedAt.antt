@@ -7,7 +7,7 @@ use Rattle.op_model.specs.Lines.{Service, NoService, Own, For}
 use Rattle.line_invariant.specs.Line.{IsServedWell}
 use Rattle.line_invariant.specs.Rows.{IsServedFor, IsOwnServed}
 use Rattle.eager_model.specs.Line.{AgedLine, greater}
-use Rattle.eager_model.specs.Served.{IsDoneAt, IsServedAt}
+use Rattle.eager_model.specs.Served.{IsDoneAt, IsServedAt, IsOwed}
 use Rattle.eager_model.proofs.NewestRows.{IsAtTop}
 
 pub above : (top x : ℕ) → top ≤ greater top x
@@ -17,6 +17,11 @@ pub for-well : (want : ℕ → Option Want) (answered : ℕ → Bool) (me : ℕ)
 for-well want answered me words NoService s = tt
 for-well want answered me words (Own op on) s = s.0
 for-well want answered me words (For node on) s = s.0
+
+pub for-owed : (want : ℕ → Option Want) (answered : ℕ → Bool) (me : ℕ) (words : Words) (service : Service) → IsServedFor want answered me words service → IsOwed want answered me service
+for-owed want answered me words NoService s = tt
+for-owed want answered me words (Own op on) s = (s.1, s.2)
+for-owed want answered me words (For node on) s = (s.1, s.2, s.3)
 
 pub own-well : (op : Op) (words : Words) (service : Service) → IsOwnServed op words service → IsServedWell service words
 own-well op words NoService s = tt

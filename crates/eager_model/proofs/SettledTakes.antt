@@ -11,20 +11,21 @@ use Rattle.op_model.specs.Tables.Remote.{on_fwd_get, is_invalidate, waits_load, 
 use Rattle.op_model.specs.Tables.Remote as delayed
 use Rattle.op_model.proofs.Plain.{eqb-self}
 use Rattle.line_invariant.specs.Line.{share_of}
-use Rattle.line_invariant.specs.Rows.{IsServedFor}
+use Rattle.line_invariant.specs.Rows.{IsServedFor, IsPut, EndsRight}
 use Rattle.line_invariant.specs.Good.{IsGoodNode, IsGoodHeader, AskingX, Asked, ToGive, asked_role}
 use Rattle.line_invariant.proofs.Basics.{if-either}
 use Rattle.line_invariant.proofs.Fronts.{getx-comes, fwdx-first, request-away, answer-comes, replies-only, reply-home}
 use Rattle.line_invariant.proofs.ForwardNodes.{asked-phase, node-holds}
 use Rattle.line_invariant.proofs.RemoteRows.{answered}
 use Rattle.line_invariant.proofs.MeetsRow.{meets-take}
-use Rattle.line_invariant.proofs.Served.{served-take}
+use Rattle.line_invariant.proofs.Served.{served-take, put-answered}
 use Rattle.eager_model.specs.Rows.{asks_shared, meets, row_of, on_getx, on_message}
 use Rattle.eager_model.specs.Ages.{age_given, served_age}
 use Rattle.eager_model.specs.Line.{AgedLine, ages_of, ages_after_take, row_taken, after_take}
-use Rattle.eager_model.specs.Served.{IsServedAt, age_taken}
+use Rattle.eager_model.specs.Served.{IsServedAt, IsOwed, age_taken}
 use Rattle.eager_model.specs.Good.{IsSettled, IsEagerGood}
-use Rattle.eager_model.proofs.ServedAt.{above, for-well, served-at}
+use Rattle.eager_model.proofs.ServedAt.{above, for-well, for-owed, served-at}
+use Rattle.eager_model.proofs.AnyLine.{eager-done}
 use Rattle.eager_model.proofs.Quiet.{at-top}
 use Rattle.eager_model.proofs.Taken.{left_line}
 use Rattle.eager_model.proofs.Same.{same-meets, same-message, good-without-ages}
@@ -213,3 +214,30 @@ module _ (home : ℕ) (line : AgedLine) (settled : IsSettled home line) (from to
               none-served NoService e = tt
               none-served (Own op on) e = absurd (grind arith)
               none-served (For n on) e = absurd (grind arith)
+
+      -- whose operation it is
+      pub owed-settled-take : IsOwed line.line.want line.line.answered to (row_taken home from to content room line.line).served
+      owed-settled-take = go (is_getx content) refl
+        where
+          go : (x : Bool) → is_getx content ≡ x → IsOwed line.line.want line.line.answered to (row_taken home from to content room line.line).served
+          go false e = for-owed line.line.want line.line.answered to line.line.words (row_taken home from to content room line.line).served (taken-served (λ is. absurd (let no : true ≡ false = sym (ap is_getx is) ∙ e in grind arith)))
+          go true e = let none : (row_taken home from to content room line.line).served ≡ NoService = rw (getx-only content e) (getx-serves to home from (is_empty (line.line.copy to)) room (share_of line.line to)) in rw none tt
+
+      pub done-settled-take : EndsRight (line.line.answered to ≡ true) (row_taken home from to content room line.line)
+      done-settled-take = eager-done to home from (is_empty (line.line.copy to)) room (share_of line.line to) (line.line.answered to ≡ true) content (known content front)
+        where
+          known : (content : Content) → line.line.lane from to class ≡ content ∷ rest → IsPut content → line.line.answered to ≡ true
+          known (Put words) front is = put-answered home line.line settled.good from rest to class words front
+          known Get front is = absurd is
+          known GetX front is = absurd is
+          known (FwdGet r) front is = absurd is
+          known (FwdGetX r) front is = absurd is
+          known Inv front is = absurd is
+          known (Wb words) front is = absurd is
+          known Rpl front is = absurd is
+          known (PutX words) front is = absurd is
+          known (Nak cause) front is = absurd is
+          known InvAck front is = absurd is
+          known (ShWb words) front is = absurd is
+          known FAck front is = absurd is
+          known Nakc front is = absurd is

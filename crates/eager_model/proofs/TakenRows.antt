@@ -1,4 +1,4 @@
--- The ages of a line that doesn't drain after a message without words that count for more than its taker, or after an answer: the rows of any node but those of the home and those that hand the line on.
+-- The ages of a line that doesn't drain after a forward, an invalidation or an answer, at any node. Who hands the line on stands apart, as it begins an age.
 use Rattle.std.proofs.Common.{◌≡◌, ℕ, Bool, true, false, cond, ◌==◌, ◌||◌, List, [], ◌∷◌, refl, arith, ◌∙◌, Option, Some, None}
 use Rattle.std.proofs.lemmas.Bool.{not-true}
 use Rattle.std.proofs.lemmas.Bool.Decides.{nat_tests}

@@ -1,9 +1,11 @@
 -- On which words an operation is served, and at which age, where a row serves one.
-use Rattle.std.specs.Prelude.{◌≡◌, ℕ, ◌≤◌, ◌==◌, Bool, true, false}
+use Rattle.std.specs.Prelude.{◌≡◌, ◌≢◌, ℕ, ◌≤◌, ◌==◌, Bool, true, false, Option}
 use Rattle.op_model.specs.Operations.{Words, is_load}
 use Rattle.op_model.specs.Messages.{Content}
 use Rattle.op_model.specs.Lines.{Room, Service, NoService, Own, For, Outcome}
 use Rattle.line_invariant.specs.Line.{share_of}
+use Rattle.line_invariant.specs.Rows.{wanting, IsLoadWanted}
+use Rattle.eager_model.specs.Types.{Want}
 use Rattle.eager_model.specs.Ages.{LineAges, age_given, served_age}
 use Rattle.eager_model.specs.Line.{AgedLine, ages_of, ages_after_take, row_taken}
 
@@ -17,6 +19,12 @@ abbrev pub IsServedAt : AgedLine → ℕ → ℕ → Service → ℕ → Type 0
 IsServedAt line me top NoService age = Unit {0}
 IsServedAt line me top (Own op on) age = IsDoneAt (is_load op.kind) line top on age × (line.last me ≤ age)
 IsServedAt line me top (For node on) age = IsDoneAt true line top on age × (line.last node ≤ age)
+
+-- Whose operation a row at a node serves: a write that the node has begun, or the load of another node that waits for it and wasn't served before
+abbrev pub IsOwed : (ℕ → Option Want) → (ℕ → Bool) → ℕ → Service → Type 0
+IsOwed want answered me NoService = Unit {0}
+IsOwed want answered me (Own op on) = ((marked : Bool) × (want me ≡ wanting op marked)) × (is_load op.kind ≡ false)
+IsOwed want answered me (For node on) = IsLoadWanted (want node) × (answered node ≡ false) × (node ≢ me)
 
 -- the age of the operation that a row at a node serves, where it leaves the line with these ages
 abbrev pub age_served : ℕ → ℕ → Outcome → LineAges → AgedLine → ℕ

@@ -14,16 +14,18 @@ ghost use Rattle.line_invariant.specs.Good.{IsGood};
 ghost use Rattle.eager_model.specs.Rows.{asks_shared, begin_op, meets, on_message};
 ghost use Rattle.eager_model.specs.Ages.{with_copy, ages_begun, ages_left};
 ghost use Rattle.eager_model.specs.Line.{AgedLine, ages_of, aged_row, row_taken, after_take};
-ghost use Rattle.eager_model.specs.Served.{IsServedAt, age_served, age_taken};
+ghost use Rattle.eager_model.specs.Served.{IsServedAt, IsOwed, age_served, age_taken};
 ghost use Rattle.eager_model.specs.Good.{IsEagerGood, IsSettled};
 
-/// Every message that is taken keeps the line good: it stays settled, but where a GetX makes it drain, E2. What it serves is served on the words of its age, and no earlier than the node's last operation.
+/// Every message that is taken keeps the line good: it stays settled, but where a GetX makes it drain, E2. What it serves is served on the words of its age, no earlier than the node's last operation, and once.
 /// Every message but that GetX does what it does in the delayed core, so that all that holds of the line there still holds.
 pub fn every_settled_take()
     ensures same { (me home from : ℕ) (alone : Bool) (room : Room) (share : LineShare) (content : Content) → is_invalidate share.header.wait ≡ false → asks_shared room from share.header ≡ false → on_message me home from alone room content share ≡ delayed.on_message me home from alone room content share }
     ensures good { (home : ℕ) (line : AgedLine) (from to : ℕ) (class : Class) (content : Content) (rest : List Content) (age : ℕ) (ages : List ℕ) (room : Room) → IsSettled home line → line.line.lane from to class ≡ content ∷ rest → asks_shared room from line.line.header ≡ false → IsGood home (after_take home from to class content rest age ages room line).line }
     ensures kept { (home : ℕ) (line : AgedLine) (from to : ℕ) (class : Class) (content : Content) (rest : List Content) (age : ℕ) (ages : List ℕ) (room : Room) → line.words_at line.top ≡ line.line.words → IsSettled home line → line.line.lane from to class ≡ content ∷ rest → line.lane_age from to class ≡ age ∷ ages → IsEagerGood home (after_take home from to class content rest age ages room line) }
     ensures served { (home : ℕ) (line : AgedLine) (from to : ℕ) (class : Class) (content : Content) (rest : List Content) (age : ℕ) (ages : List ℕ) (room : Room) → line.words_at line.top ≡ line.line.words → IsSettled home line → line.line.lane from to class ≡ content ∷ rest → line.lane_age from to class ≡ age ∷ ages → IsServedAt line to (after_take home from to class content rest age ages room line).top (row_taken home from to content room line.line).served (age_taken home from to content age room line) }
+    ensures owed { (home : ℕ) (line : AgedLine) (from to : ℕ) (class : Class) (content : Content) (rest : List Content) (age : ℕ) (ages : List ℕ) (room : Room) → IsSettled home line → line.line.lane from to class ≡ content ∷ rest → line.lane_age from to class ≡ age ∷ ages → IsOwed line.line.want line.line.answered to (row_taken home from to content room line.line).served }
+    ensures done { (home : ℕ) (line : AgedLine) (from to : ℕ) (class : Class) (content : Content) (rest : List Content) (age : ℕ) (ages : List ℕ) (room : Room) → IsSettled home line → line.line.lane from to class ≡ content ∷ rest → line.lane_age from to class ≡ age ∷ ages → EndsRight (line.line.answered to ≡ true) (row_taken home from to content room line.line) }
 {}
 
 /// The message at the front of a lane meets a row at its taker.
