@@ -29,6 +29,9 @@ words-same words_at words top top' age same newest le = go (nat_lt age top') ref
 pub at-top : (words_at : ℕ → Words) (words : Words) (top : ℕ) → cond (nat_lt top top) (words_at top) words ≡ words
 at-top words_at words top = let e : nat_lt top top ≡ false = grind (arith, nat_tests) in rw e
 
+pub tail-same : (x y : ℕ) (xs ys : List ℕ) → x ∷ xs ≡ y ∷ ys → xs ≡ ys
+tail-same x y xs ys e = grind arith
+
 module _ (home : ℕ) (line : AgedLine) (p : ℕ) (class : Class) (content : Content) (rest : List Content) (age : ℕ) (ages : List ℕ) (header : Header) where
   -- the line after such a row
   abbrev pub quiet_row : AgedLine
