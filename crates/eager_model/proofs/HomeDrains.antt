@@ -32,7 +32,7 @@ module _ (home : ℕ) (line : AgedLine) (newest : line.words_at line.top ≡ lin
   phase : settled.good.phase ≡ Clean
   phase = clean-phase home settled.good.phase line.line.words line.line.header (line.line.copy home) settled.good.header idle clean
 
-  pub header : IsGoodHeader home Clean line.line.words line.line.header (line.line.copy home)
+  header : IsGoodHeader home Clean line.line.words line.line.header (line.line.copy home)
   header = rw phase at settled.good.header
 
   at_home : IsGoodHome home Clean line.line.words (line.line.copy home) (line.line.want home) (settled.good.status home)
@@ -41,7 +41,7 @@ module _ (home : ℕ) (line : AgedLine) (newest : line.words_at line.top ≡ lin
   node : (n : ℕ) → n ≢ home → IsGoodNode (MayShare NoDuty) line.line.words (listed line.line.header.list n) (line.line.copy n) (line.line.want n) (settled.good.status n)
   node n far = rw phase at (settled.good.nodes n far)
 
-  pub memory_top : line.memory_age ≡ line.top
+  memory_top : line.memory_age ≡ line.top
   memory_top = ages_before.memory clean
 
   abbrev next : AgedLine
@@ -51,7 +51,7 @@ module _ (home : ℕ) (line : AgedLine) (newest : line.words_at line.top ≡ lin
   abbrev has : ℕ → ℕ
   has n = cond (n == home) (suc line.top) (has_before n)
 
-  pub next-top : next.top ≡ suc line.top
+  next-top : next.top ≡ suc line.top
   next-top = raised-called line.top line.memory_age _ (in_order line.line.header.list) memory_top
 
   -- each node that has words has the newest
