@@ -28,11 +28,11 @@ use Rattle.one_history.proofs.Project.{project-marks, project-other, project-row
 use Rattle.one_history.proofs.Sets.{IsRoomFor, cached-row}
 use Rattle.one_history.proofs.Shares.{IsOn, after_row_of}
 
-after-append : (flat : FlatMemory) (xs ys : List Entry) → after_from flat (xs ++ ys) ≡ after_from (after_from flat xs) ys
+pub after-append : (flat : FlatMemory) (xs ys : List Entry) → after_from flat (xs ++ ys) ≡ after_from (after_from flat xs) ys
 after-append flat [] ys = refl
 after-append flat (x ∷ xs) ys = after-append (after_entry flat x) xs ys
 
-legal-append : (flat : FlatMemory) (xs ys : List Entry) → IsLegalFrom flat xs → IsLegalFrom (after_from flat xs) ys → IsLegalFrom flat (xs ++ ys)
+pub legal-append : (flat : FlatMemory) (xs ys : List Entry) → IsLegalFrom flat xs → IsLegalFrom (after_from flat xs) ys → IsLegalFrom flat (xs ++ ys)
 legal-append flat [] ys h k = k
 legal-append flat (x ∷ xs) ys h k = (h.0, legal-append (after_entry flat x) xs ys h.1 k)
 
