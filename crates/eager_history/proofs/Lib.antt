@@ -1,2 +1,4 @@
 pub mod InOrder
 pub mod Added
+pub mod LaneAges
+pub mod AgedProject
