@@ -2,3 +2,5 @@ pub mod InOrder
 pub mod Added
 pub mod LaneAges
 pub mod AgedProject
+pub mod Nodes
+pub mod SoundRow
