@@ -4,3 +4,4 @@ pub mod LaneAges
 pub mod AgedProject
 pub mod Nodes
 pub mod SoundRow
+pub mod OwnRows
