@@ -5,3 +5,5 @@ pub mod AgedProject
 pub mod Nodes
 pub mod SoundRow
 pub mod OwnRows
+pub mod Elsewhere
+pub mod Locals
