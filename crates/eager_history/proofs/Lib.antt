@@ -7,3 +7,4 @@ pub mod SoundRow
 pub mod OwnRows
 pub mod Elsewhere
 pub mod Locals
+pub mod Takes
