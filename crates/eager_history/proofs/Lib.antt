@@ -8,3 +8,5 @@ pub mod OwnRows
 pub mod Elsewhere
 pub mod Locals
 pub mod Takes
+pub mod Events
+pub mod Runs

@@ -85,7 +85,7 @@ module _ (trace : Trace) (positive : 0 < trace.sizes.words) (past : Past) (sound
   unfolding hit
   hit-is op row node line none is free = ((refl, is, inl free, none-served node line free), (none, refl), rw none tt)
 
-  keeps-hit : (node : ℕ) (next : Op) → slice_get (program trace node) (share node).place ≡ Some next → (share node).want ≡ None → Keeps node HitNext (hit_next sizes node (share node) next)
+  pub keeps-hit : (node : ℕ) (next : Op) → slice_get (program trace node) (share node).place ≡ Some next → (share node).want ≡ None → Keeps node HitNext (hit_next sizes node (share node) next)
   unfolding aged_line project
   keeps-hit node next is free =
       if-either (Keeps node HitNext) (serves next (copy_of (share node) (line_of sizes next.word))) _ _ (λ serve. hits (line_of sizes next.word) next (is, refl) serve) (λ _. keeps-error node HitNext _)
@@ -109,7 +109,7 @@ module _ (trace : Trace) (positive : 0 < trace.sizes.words) (past : Past) (sound
   begun-memory true k l a b e = e
   begun-memory false k l a b e = e
 
-  keeps-issue : (node : ℕ) (next : Op) → slice_get (program trace node) (share node).place ≡ Some next → (share node).want ≡ None → Keeps node IssueNext (issue_next sizes node (share node) next)
+  pub keeps-issue : (node : ℕ) (next : Op) → slice_get (program trace node) (share node).place ≡ Some next → (share node).want ≡ None → Keeps node IssueNext (issue_next sizes node (share node) next)
   unfolding aged_line project
   keeps-issue node next is free =
       if-either (Keeps node IssueNext) (serves next (copy_of (share node) (line_of sizes next.word))) _ _ (λ _. keeps-error node IssueNext _) (λ _.
@@ -163,7 +163,7 @@ module _ (trace : Trace) (positive : 0 < trace.sizes.words) (past : Past) (sound
   kept-in node line None e = tt
   kept-in node line (Some want) e = begun-next trace node (share node).place (share node).want line want.op want.marked (sound.ordered node).begun (sym e)
 
-  keeps-evict : (node line : ℕ) (kind : EvictKind) (room : Bool) → Keeps node (EvictLine line kind room) (evict_line sizes node (share node) line kind room)
+  pub keeps-evict : (node line : ℕ) (kind : EvictKind) (room : Bool) → Keeps node (EvictLine line kind room) (evict_line sizes node (share node) line kind room)
   unfolding aged_line project
   keeps-evict node line kind room = go (evict node (home_of sizes line) kind (line_share sizes (share node) line)) refl
     where
@@ -184,6 +184,6 @@ module _ (trace : Trace) (positive : 0 < trace.sizes.words) (past : Past) (sound
           (rw quiet.0 tt) (any-leave (home_of sizes line) (line_at line) (sound.lines line).good node kind x same.1)))
 
   -- where lists cost no links none is called in
-  keeps-reclaim : (node line : ℕ) → Keeps node (ReclaimLine line) (map_ok (by_row sizes node (share node) line) (reclaim (room_of Unlinked sizes (share node)) (line_share sizes (share node) line)))
+  pub keeps-reclaim : (node line : ℕ) → Keeps node (ReclaimLine line) (map_ok (by_row sizes node (share node) line) (reclaim (room_of Unlinked sizes (share node)) (line_share sizes (share node) line)))
   unfolding reclaim
   keeps-reclaim node line = keeps-error node (ReclaimLine line) _
