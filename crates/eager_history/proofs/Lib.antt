@@ -10,3 +10,4 @@ pub mod Locals
 pub mod Takes
 pub mod Events
 pub mod Runs
+pub mod LineHistory
