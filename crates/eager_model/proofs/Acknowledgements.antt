@@ -5,9 +5,9 @@ use Rattle.eager_model.specs.Types.{Reply, Want, Idle}
 use Rattle.op_model.specs.Nodes.{Nodes, listed, unlist, listings, count-unlist}
 use Rattle.op_model.specs.Operations.{Words}
 use Rattle.op_model.specs.Messages.{Content, InvAck}
-use Rattle.op_model.specs.Lines.{Copy}
+use Rattle.op_model.specs.Lines.{Copy, Header}
 use Rattle.op_model.specs.Events.Step.{put_at}
-use Rattle.line_invariant.specs.Good.{Status, Resting, Duty, NoDuty, Acked, Phase, Clean, Recalled, Bare, Holds, Waiting, IsGoodNode, IsGoodHeader, IsGoodHome, IsHomeCarrier, IsOnDuty, role_in, asked_role, answer_part, is_put}
+use Rattle.line_invariant.specs.Good.{Status, Resting, Duty, NoDuty, Acked, Phase, Clean, MayShare, Recalled, Bare, Holds, Waiting, IsGood, IsGoodNode, IsGoodHeader, IsGoodHome, IsHomeCarrier, IsOnDuty, role_in, asked_role, answer_part, is_put}
 use Rattle.op_model.proofs.Plain.{eqb-self}
 use Rattle.std.proofs.lemmas.Bool.{ne_eqb}
 use Rattle.line_invariant.proofs.Fronts.{ack-first}
@@ -15,8 +15,9 @@ use Rattle.line_invariant.proofs.HomeLanes.{lanes-ack, lanes-all-quiet, all_in}
 use Rattle.line_invariant.proofs.HomeNodes.{node-acked}
 use Rattle.line_invariant.proofs.Marks.{keep, at-one}
 use Rattle.eager_model.specs.Line.{AgedLine}
-use Rattle.eager_model.specs.Good.{IsDraining, IsSettled, IsAgeIn, has_words, draining_role}
-use Rattle.eager_model.proofs.Quiet.{quiet_row, quiet-node, quiet-ages}
+use Rattle.eager_model.specs.Good.{IsDraining, IsSettled, has_words, draining_role}
+use Rattle.eager_model.proofs.Quiet.{quiet_row, quiet-top, quiet-node, quiet-ages}
+use Rattle.eager_model.proofs.Newest.{newest-of-ages}
 
 -- who has acknowledged isn't the grantee, and is listed
 acked-role : (grantee p : ℕ) (holds lists : Bool) (duty : Duty) → IsOnDuty (draining_role grantee holds p) lists duty → duty ≡ Acked → ((p == grantee) ≡ false) × (lists ≡ true)
@@ -63,7 +64,10 @@ module _ (home : ℕ) (line : AgedLine) (newest : line.words_at line.top ≡ lin
         has = good.has;
         lanes = lanes-ack home p line.line.lane good.status apart good.lanes rest comes.2 comes.1 comes.0;
         header = rw on (record {
-          waits = header.waits; dirty = header.dirty; memory = header.memory; some = grind (arith, nat_tests);
+          waits = header.waits;
+          dirty = header.dirty;
+          memory = header.memory;
+          some = grind (arith, nat_tests);
           due = ap (λ n. n - 1) header.due ∙ sym (counted ∙ simp from.1);
           granted = (let e = header.granted in grind (arith, nat_tests, listings));
           own = header.own;
@@ -99,29 +103,36 @@ module _ (home : ℕ) (line : AgedLine) (newest : line.words_at line.top ≡ lin
       IsHomeCarrier home line.line.words phase Resting →
       listed list home ≡ false →
       ((node : ℕ) → node ≢ home → IsGoodNode (role_in home line.line.words phase node) line.line.words (listed list node) (line.line.copy node) (line.line.want node) (all_in home p good.status node)) →
-      ((node : ℕ) → node ≢ home → has_words (line.line.copy node) (line.line.want node) (all_in home p good.status node) ≡ true → IsAgeIn (role_in home line.line.words phase node) (good.has node) line.top) →
+      ((node : ℕ) → node ≢ home → has_words (line.line.copy node) (line.line.want node) (all_in home p good.status node) ≡ true → good.has node ≡ line.top) →
       IsSettled home (quiet_row home line p Reply InvAck rest age ages header)
-  drained phase list header carries unlisted nodes aged =
+  drained phase list header carries unlisted nodes newest_has =
       let on : (home == home) ≡ true = eqb-self home in
       let off : (home == p) ≡ false = ne_eqb home p (λ e. apart (sym e)) in
+      let next : Header = record line.line.header { wait = Idle; list = list; acks = 0 } in
+      let good_next : IsGood home (quiet_row home line p Reply InvAck rest age ages next).line = record {
+        phase = phase;
+        status = all_in home p good.status;
+        lanes = lanes-all-quiet home p line.line.lane good.status apart good.lanes rest comes.2 comes.1 good.at_home.carrier;
+        header = rw on header;
+        local = rw on good.local;
+        unlisted = rw on unlisted;
+        at_home = rw (on, off) (home-still (line.line.want home) (good.status home) good.at_home carries);
+        nodes = λ node far. let apart_home : (node == home) ≡ false = ne_eqb node home far in rw (on, apart_home) (simp apart_home at (nodes node far));
+        answered = λ node. at-one line.line.answered good.status good.answered home Resting (sym (ap is_put good.at_home.carrier)) node;
+      } in
       record {
-        good = record {
-          phase = phase;
-          status = all_in home p good.status;
-          lanes = lanes-all-quiet home p line.line.lane good.status apart good.lanes rest comes.2 comes.1 good.at_home.carrier;
-          header = rw on header;
-          local = rw on good.local;
-          unlisted = rw on unlisted;
-          at_home = rw (on, off) (home-still (line.line.want home) (good.status home) good.at_home carries);
-          nodes = λ node far. let apart_home : (node == home) ≡ false = ne_eqb node home far in rw (on, apart_home) (simp apart_home at (nodes node far));
-          answered = λ node. at-one line.line.answered good.status good.answered home Resting (sym (ap is_put good.at_home.carrier)) node;
-        };
+        good = good_next;
         settled = rw on;
-        has = good.has;
-        ages = quiet-ages home line p Reply InvAck rest age ages _ good.status (draining_role good.grantee good.holds) good.has good.ages (all_in home p good.status) (role_in home line.line.words phase) front first (λ e. e) aged
-            (λ node. same-put node (node == home) refl);
+        ages = newest-of-ages home (quiet_row home line p Reply InvAck rest age ages next) good_next (λ node. MayShare NoDuty) good.has
+            (quiet-ages home line p Reply InvAck rest age ages next good.status (draining_role good.grantee good.holds) good.has good.ages (all_in home p good.status) (λ node. MayShare NoDuty) front first (λ e. e) newest_has
+            (λ node. same-put node (node == home) refl))
+            (λ node far e. newest_has node far (elsewhere node (node == home) (ne_eqb node home far) e) ∙ sym (quiet-top home line p Reply InvAck rest age ages next good.status (draining_role good.grantee good.holds) good.has good.ages));
       }
     where
+      elsewhere : (node : ℕ) (b : Bool) → b ≡ false → has_words (cond b (line.line.copy home) (line.line.copy node)) (cond b (line.line.want home) (line.line.want node)) (all_in home p good.status node) ≡ true → has_words (line.line.copy node) (line.line.want node) (all_in home p good.status node) ≡ true
+      elsewhere node false e h = h
+      elsewhere node true e h = absurd (grind arith)
+
       home-still : (want : Option Want) (status : Status) → IsGoodHome home Clean line.line.words (line.line.copy home) want status → IsHomeCarrier home line.line.words phase Resting →
           IsGoodHome home phase line.line.words (line.line.copy home) want (record { carrier = Resting; leaving = status.leaving; duty = status.duty })
       home-still want status it fits = record { carried = rw it.carrier at it.carried; stays = it.stays; off_duty = it.off_duty; carrier = fits }

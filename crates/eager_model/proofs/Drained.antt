@@ -14,7 +14,7 @@ use Rattle.line_invariant.proofs.HomeNodes.{node-all-in, node-may-share}
 use Rattle.line_invariant.proofs.LocalNodes.{bare-any}
 use Rattle.eager_model.specs.Rows.{drained_list}
 use Rattle.eager_model.specs.Line.{AgedLine}
-use Rattle.eager_model.specs.Good.{IsDraining, IsSettled, IsAgeIn, has_words}
+use Rattle.eager_model.specs.Good.{IsDraining, IsSettled, has_words}
 use Rattle.eager_model.proofs.Quiet.{quiet_row}
 use Rattle.eager_model.proofs.Acknowledgements.{comes, from, drained, bare-has-none, holder-has, holder-any}
 
@@ -70,7 +70,7 @@ module _ (home : ℕ) (line : AgedLine) (newest : line.words_at line.top ≡ lin
       (refl, good.header.dirty ∙ holds, all_gone, (rw (holds, own) at good.header.own))
       refl (rid home)
       (λ node far. rw (rid node) (called-node node far (grind (arith, nat_tests)) line.line.words))
-      (λ node far e. tt)
+      (λ node far e. absurd (let no = bare-has-none line.line.words (listed (unlist line.line.header.list p) node) (line.line.copy node) (line.line.want node) (all_in home p good.status node) Usual NoDuty (rw (rid node) (called-node node far (grind (arith, nat_tests)) line.line.words)) in grind arith))
 
   -- another node has it
   drained-owned : good.holds ≡ true → (good.grantee == home) ≡ false → IsSettled home (quiet_row home line p Reply InvAck rest age ages (record line.line.header { wait = Idle; list = only good.grantee; acks = 0 }))
@@ -99,9 +99,9 @@ module _ (home : ℕ) (line : AgedLine) (newest : line.words_at line.top ≡ lin
           let words : line.words_at (good.has node) ≡ line.line.words = ap line.words_at (newest-held node far e) ∙ newest in
           holder-any line.line.words _ (line.line.copy node) (line.line.want node) (all_in home p good.status node) NoDuty _ (rw words at (holder node far e))
 
-      aged : (node : ℕ) → node ≢ home → has_words (line.line.copy node) (line.line.want node) (all_in home p good.status node) ≡ true → (b : Bool) → (node == good.grantee) ≡ b → IsAgeIn (cond b (Holds NoDuty) (Bare Usual NoDuty)) (good.has node) line.top
+      aged : (node : ℕ) → node ≢ home → has_words (line.line.copy node) (line.line.want node) (all_in home p good.status node) ≡ true → (b : Bool) → (node == good.grantee) ≡ b → good.has node ≡ line.top
       aged node far has true e = newest-held node far e
-      aged node far has false e = tt
+      aged node far has false e = absurd (let no = bare-has-none line.line.words false (line.line.copy node) (line.line.want node) (all_in home p good.status node) Usual NoDuty (called-node node far e line.line.words) in grind arith)
 
   pub good-drained : IsSettled home (quiet_row home line p Reply InvAck rest age ages (record line.line.header { wait = Idle; list = drained_list home line.line.header (unlist line.line.header.list p); acks = 0 }))
   good-drained = subst (λ list. IsSettled home (quiet_row home line p Reply InvAck rest age ages (record line.line.header { wait = Idle; list = list; acks = 0 }))) (sym told) (go good.holds refl (good.grantee == home) refl)

@@ -1,27 +1,25 @@
 -- A hint that comes while a line drains changes nothing at the home, H27.
-use Rattle.std.proofs.Common.{◌≡◌, ◌≢◌, ℕ, Bool, true, false, cond, ◌==◌, List, ◌∷◌, refl, arith, sym, ◌∙◌, subst, inr, Option}
+use Rattle.std.proofs.Common.{◌≡◌, ◌≢◌, ℕ, Bool, true, List, ◌∷◌, refl, arith, sym, ◌∙◌, Option}
 use Rattle.std.proofs.lemmas.Bool.Decides.{nat_tests}
 use Rattle.eager_model.specs.Types.{Class, Request, Reply, Want}
-use Rattle.op_model.specs.Nodes.{listed}
 use Rattle.op_model.specs.Operations.{Words}
 use Rattle.op_model.specs.Messages.{Content, Rpl}
-use Rattle.op_model.specs.Lines.{Copy, Room, Outcome, LineShare, sending, no_message, is_empty}
+use Rattle.op_model.specs.Lines.{Copy, Room, LineShare, sending, no_message, is_empty}
 use Rattle.op_model.specs.Tables.Home.{on_rpl}
 use Rattle.op_model.specs.Tables.Remote as delayed
 use Rattle.op_model.specs.Events.Step.{put_at}
 use Rattle.line_invariant.specs.Line.{Lanes, share_of, sent, taken}
-use Rattle.line_invariant.specs.Good.{Status, Hints, NotLeaving, Role, IsGoodNode, asking_part, expected, is_put}
+use Rattle.line_invariant.specs.Good.{Status, Hints, NotLeaving, Role, IsGoodNode, asking_part, expected}
 use Rattle.op_model.proofs.Plain.{eqb-self}
-use Rattle.std.proofs.lemmas.Bool.{ne_eqb}
 use Rattle.line_invariant.proofs.Fronts.{rpl-first}
-use Rattle.line_invariant.proofs.Marks.{keep}
 use Rattle.eager_model.specs.Rows.{Drain, meets, row_of, on_message}
-use Rattle.eager_model.specs.Ages.{with_copy}
-use Rattle.eager_model.specs.Line.{AgedLine, ages_of, aged_row, after_take, taken_age}
+use Rattle.eager_model.specs.Line.{AgedLine, ages_of, after_take}
 use Rattle.eager_model.specs.Good.{IsEagerGood, IsDraining, has_words, draining_role}
-use Rattle.eager_model.proofs.Quiet.{quiet_row, quiet-newest, quiet-node, quiet-ages}
+use Rattle.eager_model.proofs.SentAges.{none-sent, given_age}
+use Rattle.eager_model.proofs.DrainingTaken.{IsTakenHome, taken-home}
+use Rattle.eager_model.proofs.DrainingMeets.{by-row}
 
-lanes-departed : (home p : ℕ) (lane : Lanes) (status : ℕ → Status) → p ≢ home → ((a b : ℕ) (class : Class) → lane a b class ≡ expected home status a b class) →
+pub lanes-departed : (home p : ℕ) (lane : Lanes) (status : ℕ → Status) → p ≢ home → ((a b : ℕ) (class : Class) → lane a b class ≡ expected home status a b class) →
     (rest : List Content) → rest ≡ asking_part (status p).carrier →
     (a b : ℕ) (class : Class) → sent home no_message (taken p home Request rest lane) a b class ≡ expected home (put_at status p (record (status p) { leaving = NotLeaving })) a b class
 lanes-departed home p lane status apart lanes rest left a b Request = grind (arith, nat_tests, lanes a b Request)
@@ -33,11 +31,11 @@ node-hinted role words lists copy want status good leaves = grind arith
 has-hinted : (copy : Copy) (want : Option Want) (status : Status) → has_words copy want (record status { leaving = NotLeaving }) ≡ true → has_words copy want status ≡ true
 has-hinted copy want status e = grind arith
 
-meets-rpl : (home from : ℕ) (share : LineShare) → meets home home from (is_empty share.copy) Rpl share ≡ true
+pub meets-rpl : (home from : ℕ) (share : LineShare) → meets home home from (is_empty share.copy) Rpl share ≡ true
 unfolding meets delayed.meets
 meets-rpl home from share = eqb-self home
 
-does-rpl : (home from : ℕ) (room : Room) (share : LineShare) (grantee : ℕ) → share.header.wait ≡ Drain grantee → on_message home home from (is_empty share.copy) room Rpl share ≡ sending share no_message
+pub does-rpl : (home from : ℕ) (room : Room) (share : LineShare) (grantee : ℕ) → share.header.wait ≡ Drain grantee → on_message home home from (is_empty share.copy) room Rpl share ≡ sending share no_message
 unfolding on_message row_of delayed.row_of on_rpl
 does-rpl home from room share grantee waits = simp (meets-rpl home from share, waits)
 
@@ -46,47 +44,23 @@ module _ (home : ℕ) (line : AgedLine) (newest : line.words_at line.top ≡ lin
   comes : ((good.status p).leaving ≡ Hints) × (rest ≡ asking_part (good.status p).carrier)
   comes = rpl-first _ _ rest (sym (simp (eqb-self home) at (good.lanes p home Request)) ∙ front)
 
-  hinted : IsDraining home (quiet_row home line p Request Rpl rest age ages line.line.header)
+  hinted : IsTakenHome home line newest good p apart Request Rpl rest age ages front first line.line.header no_message line.memory_age (record (good.status p) { leaving = NotLeaving }) good.holds
   hinted =
-      let on : (home == home) ≡ true = eqb-self home in
       record {
-        grantee = good.grantee;
-        holds = good.holds;
-        status = put_at good.status p (record (good.status p) { leaving = NotLeaving });
-        has = good.has;
         lanes = lanes-departed home p line.line.lane good.status apart good.lanes rest comes.1;
-        header = rw on good.header;
-        local = rw on good.local;
-        unlisted = rw on good.unlisted;
-        at_home = rw (on, ne_eqb home p (λ e. apart (sym e))) good.at_home;
-        nodes = λ node far. quiet-node home line p Request Rpl rest age ages line.line.header good.status (draining_role good.grantee good.holds) good.has good.ages newest node far _ _ (node-now node far (node == p) refl);
-        answered = λ node. keep line.line.answered good.status good.answered p _ refl node;
-        ages = quiet-ages home line p Request Rpl rest age ages line.line.header good.status (draining_role good.grantee good.holds) good.has good.ages _ (draining_role good.grantee good.holds) front first (λ e. e)
-            (λ node far e. good.ages.aged node far (same-words node (node == p) refl e))
-            (λ node. same-put node (node == p) refl);
+        sent = none-sent (given_age home line home) line.top good.has home;
+        same_role = λ node other. refl;
+        of_header = good.header;
+        list = refl;
+        local = refl;
+        node = node-hinted (draining_role good.grantee good.holds p) (line.words_at (good.has p)) _ (line.line.copy p) (line.line.want p) (good.status p) (good.nodes p apart) comes.0;
+        had = λ e. (has-hinted (line.line.copy p) (line.line.want p) (good.status p) e, refl);
+        put = refl;
+        of_memory = good.ages.memory;
       }
-    where
-      node-now : (node : ℕ) → node ≢ home → (b : Bool) → (node == p) ≡ b →
-          IsGoodNode (draining_role good.grantee good.holds node) (line.words_at (good.has node)) (listed line.line.header.list node) (line.line.copy node) (line.line.want node) (cond b (record (good.status p) { leaving = NotLeaving }) (good.status node))
-      node-now node far true e =
-          let is : node ≡ p = grind (arith, nat_tests) in
-          rw is (node-hinted (draining_role good.grantee good.holds p) (line.words_at (good.has p)) _ (line.line.copy p) (line.line.want p) (good.status p) (good.nodes p apart) comes.0)
-      node-now node far false e = good.nodes node far
-
-      same-words : (node : ℕ) (b : Bool) → (node == p) ≡ b → has_words (line.line.copy node) (line.line.want node) (cond b (record (good.status p) { leaving = NotLeaving }) (good.status node)) ≡ true → has_words (line.line.copy node) (line.line.want node) (good.status node) ≡ true
-      same-words node true e h = let is : node ≡ p = grind (arith, nat_tests) in rw is (has-hinted (line.line.copy p) (line.line.want p) (good.status p) (rw is at h))
-      same-words node false e h = h
-
-      same-put : (node : ℕ) (b : Bool) → (node == p) ≡ b → is_put (cond b (record (good.status p) { leaving = NotLeaving }) (good.status node)).carrier ≡ is_put (good.status node).carrier
-      same-put node true e = let is : node ≡ p = grind (arith, nat_tests) in rw is
-      same-put node false e = refl
 
   pub good-hint : IsEagerGood home (after_take home p home Request Rpl rest age ages room line)
-  good-hint = rw (meets-rpl home p (share_of line.line home)) (subst Keeps (sym (does-rpl home p room (share_of line.line home) good.grantee good.header.waits)) row)
-    where
-      Keeps : Outcome → Type 0
-      Keeps o =
-          IsEagerGood home (aged_row home home o (with_copy o.share.copy (ages_of line home)) (record line { line = record line.line { lane = taken p home Request rest line.line.lane }; lane_age = taken_age p home Request ages line.lane_age }))
-
-      row : Keeps (sending (share_of line.line home) no_message)
-      row = record { newest = quiet-newest home line p Request Rpl rest age ages line.line.header good.status (draining_role good.grantee good.holds) good.has good.ages; stands = inr hinted }
+  good-hint =
+      by-row home p home Request Rpl rest age ages room line (sending (share_of line.line home) no_message) (ages_of line home)
+      (meets-rpl home p (share_of line.line home)) (does-rpl home p room (share_of line.line home) good.grantee good.header.waits) refl
+      (taken-home home line newest good p apart Request Rpl rest age ages front first line.line.header no_message line.memory_age _ good.holds hinted)

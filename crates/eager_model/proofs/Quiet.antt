@@ -1,10 +1,10 @@
 -- The ages after a row of the home that takes a message without words, sends nothing, serves nothing and leaves the home's copy.
-use Rattle.std.proofs.Common.{◌≡◌, ◌≢◌, ℕ, ◌≤◌, Bool, true, false, cond, nat_lt, ◌==◌, ◌&&◌, ◌++◌, List, [], ◌∷◌, map, refl, arith, ap, sym, subst, ◌∙◌}
+use Rattle.std.proofs.Common.{◌≡◌, ◌≢◌, ℕ, ◌≤◌, Bool, true, false, cond, nat_lt, ◌==◌, List, ◌∷◌, refl, arith, ap, sym, ◌∙◌}
 use Rattle.std.proofs.lemmas.Bool.Decides.{nat_tests}
 use Rattle.eager_model.specs.Types.{Class}
 use Rattle.op_model.specs.Nodes.{listed}
 use Rattle.op_model.specs.Operations.{Words}
-use Rattle.op_model.specs.Messages.{Content, same_class}
+use Rattle.op_model.specs.Messages.{Content}
 use Rattle.op_model.specs.Lines.{Header, sending, no_message, is_empty}
 use Rattle.line_invariant.specs.Line.{share_of, taken}
 use Rattle.line_invariant.specs.Good.{Status, Role, IsGoodNode, is_put}
@@ -12,6 +12,7 @@ use Rattle.op_model.proofs.Plain.{eqb-self}
 use Rattle.std.proofs.lemmas.Bool.{ne_eqb}
 use Rattle.eager_model.specs.Ages.{with_copy}
 use Rattle.eager_model.specs.Line.{AgedLine, ages_of, aged_row, greater, taken_age}
+use Rattle.eager_model.proofs.SentAges.{kept-copy, done-ages, given_age, none-sent, taken-ages}
 use Rattle.eager_model.specs.Good.{AreAges, IsAgeIn, has_words, message_age}
 
 pub greater-same : (top age : ℕ) → age ≤ top → greater top (greater age 0) ≡ top
@@ -28,12 +29,8 @@ words-same words_at words top top' age same newest le = go (nat_lt age top') ref
 pub at-top : (words_at : ℕ → Words) (words : Words) (top : ℕ) → cond (nat_lt top top) (words_at top) words ≡ words
 at-top words_at words top = let e : nat_lt top top ≡ false = grind (arith, nat_tests) in rw e
 
-tail-same : (x y : ℕ) (xs ys : List ℕ) → x ∷ xs ≡ y ∷ ys → xs ≡ ys
+pub tail-same : (x y : ℕ) (xs ys : List ℕ) → x ∷ xs ≡ y ∷ ys → xs ≡ ys
 tail-same x y xs ys e = grind arith
-
-nothing-behind : {A : Type 0} (xs : List A) → xs ++ [] ≡ xs
-nothing-behind [] = refl
-nothing-behind (x ∷ xs) = ap (λ ys. x ∷ ys) (nothing-behind xs)
 
 module _ (home : ℕ) (line : AgedLine) (p : ℕ) (class : Class) (content : Content) (rest : List Content) (age : ℕ) (ages : List ℕ) (header : Header) where
   -- the line after such a row
@@ -70,45 +67,15 @@ module _ (home : ℕ) (line : AgedLine) (p : ℕ) (class : Class) (content : Con
         ((node : ℕ) → is_put (status' node).carrier ≡ is_put (status node).carrier) →
         AreAges home quiet_row status' role' has
     quiet-ages status' role' front first clean aged puts =
-        record {
-          copies = λ node. copies node (node == home) refl;
-          lanes = λ a b k. rw quiet-top (lanes a b k ((a == p) && (b == home) && same_class k class) refl);
-          memory = λ e. rw (quiet-top, eqb-self home) (good.memory (clean (simp (eqb-self home) at e)));
-          at_home = rw quiet-top good.at_home;
-          within = λ node. rw quiet-top (good.within node);
-          aged = λ node far e. rw quiet-top (aged node far (simp (ne_eqb node home far) at e));
-          past = λ node. rw quiet-top (good.past node);
-          under_copy = λ node e. good.under_copy node (same-copy node (node == home) refl ∙ e);
-          of_put = λ node e. good.of_put node (sym (puts node) ∙ e);
-        }
+        done-ages home line status role has good home (sending (record (share_of line.line home) { header = header }) no_message) (with_copy (line.line.copy home) (ages_of line home)) (taken p home class rest line.line.lane) (taken_age p home class ages line.lane_age)
+        (kept-copy (is_empty (line.line.copy home)) (line.copy_age home) (has home) (good.copies home)) (none-sent (given_age home line home) line.top has home) status' role'
+        (taken-ages line (message_age line.top has) good.lanes p home class content rest age ages front first).1
+        (λ e. rw (eqb-self home) (good.memory (clean (simp (eqb-self home) at e))))
+        (λ node far e. aged node far (simp (ne_eqb node home far) at e))
+        good.past
+        (λ node e. good.under_copy node (same-copy node (node == home) refl ∙ e))
+        (λ node e. good.of_put node (sym (puts node) ∙ e))
       where
         same-copy : (node : ℕ) (b : Bool) → (node == home) ≡ b → is_empty (line.line.copy node) ≡ is_empty (cond b (line.line.copy home) (line.line.copy node))
         same-copy node true e = let is : node ≡ home = grind (arith, nat_tests) in ap (λ n. is_empty (line.line.copy n)) is
         same-copy node false e = refl
-
-        copies : (node : ℕ) (b : Bool) → (node == home) ≡ b → cond b (cond (is_empty (line.line.copy home)) 0 (line.copy_age home)) (line.copy_age node) ≡ cond (is_empty (cond b (line.line.copy home) (line.line.copy node))) 0 (has node)
-        copies node false e = good.copies node
-        copies node true e = let is : home ≡ node = grind (arith, nat_tests) in rw (← is) (both (is_empty (line.line.copy home)) (good.copies home))
-          where
-            both : (c : Bool) → line.copy_age home ≡ cond c 0 (has home) → cond c 0 (line.copy_age home) ≡ cond c 0 (has home)
-            both true e = refl
-            both false e = e
-
-        tails : ages ≡ map (message_age line.top has p home) rest
-        tails = tail-same age (message_age line.top has p home content) ages (map (message_age line.top has p home) rest) (sym first ∙ good.lanes p home class ∙ ap (λ ms. map (message_age line.top has p home) ms) front)
-
-        of_lane : (a b : ℕ) (k : Class) (c : Bool) → ((a == p) && (b == home) && same_class k class) ≡ c → cond c ages (line.lane_age a b k) ≡ map (message_age line.top has a b) (cond c rest (line.line.lane a b k))
-        of_lane a b k false e = good.lanes a b k
-        of_lane a b k true e =
-            let from : p ≡ a = grind (arith, nat_tests) in
-            let to : home ≡ b = grind (arith, nat_tests) in
-            subst (λ x. ages ≡ map (message_age line.top has x b) rest) from (subst (λ y. ages ≡ map (message_age line.top has p y) rest) to tails)
-
-        lanes : (a b : ℕ) (k : Class) (c : Bool) → ((a == p) && (b == home) && same_class k class) ≡ c →
-            cond c ages (line.lane_age a b k) ++ cond (a == home) [] [] ≡ map (message_age line.top has a b) (cond c rest (line.line.lane a b k) ++ cond (a == home) [] [])
-        lanes a b k c e = behind (a == home) (of_lane a b k c e)
-          where
-            behind : (h : Bool) → cond c ages (line.lane_age a b k) ≡ map (message_age line.top has a b) (cond c rest (line.line.lane a b k)) →
-                cond c ages (line.lane_age a b k) ++ cond h [] [] ≡ map (message_age line.top has a b) (cond c rest (line.line.lane a b k) ++ cond h [] [])
-            behind true e = nothing-behind _ ∙ e ∙ ap (λ ms. map (message_age line.top has a b) ms) (sym (nothing-behind (cond c rest (line.line.lane a b k))))
-            behind false e = nothing-behind _ ∙ e ∙ ap (λ ms. map (message_age line.top has a b) ms) (sym (nothing-behind (cond c rest (line.line.lane a b k))))

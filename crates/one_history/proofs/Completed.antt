@@ -18,14 +18,14 @@ use Rattle.one_history.specs.Project.{project}
 use Rattle.one_history.specs.Sound.{IsBegunWell, IsSound, answered_of}
 
 -- an entry is completed, or of a load
-abbrev Done_or_load : State → Entry → Type 0
+abbrev pub Done_or_load : State → Entry → Type 0
 Done_or_load state entry = (is_completed state entry ≡ true) ⊎ (is_load entry.kind ≡ true)
 
 abbrev pub Each : (Entry → Type 0) → List Entry → Type 0
 Each P [] = Unit {0}
 Each P (entry ∷ entries) = P entry × Each P entries
 
-legal-kept : (state : State) (flat : FlatMemory) (xs : List Entry) → Each (Done_or_load state) xs → IsLegalFrom flat xs → IsLegalFrom flat (kept_of state xs)
+pub legal-kept : (state : State) (flat : FlatMemory) (xs : List Entry) → Each (Done_or_load state) xs → IsLegalFrom flat xs → IsLegalFrom flat (kept_of state xs)
 legal-kept state flat [] each legal = tt
 legal-kept state flat (x ∷ xs) each legal = go (is_completed state x) refl each.0 (λ next l. legal-kept state next xs each.1 l)
   where
@@ -60,20 +60,20 @@ completed-or-load state n index (Some op) x mine is short last = go (nat_lt inde
     go false e = inr (ap is_load is.1 ∙ last op refl (grind (arith, nat_tests)))
 
 -- the entries of a node up to its place are completed
-follows-each : (state : State) (n : ℕ) (ops : List Op) (index : ℕ) (xs : List Entry) → Each (λ e. e.node ≡ n) xs → Follows ops index xs → ((k : ℕ) (next : Op) → k ≡ (state.share n).place → slice_get ops k ≡ Some next → k < index + length xs → is_load next.kind ≡ true) → index + length xs < suc (suc (state.share n).place) → Each (Done_or_load state) xs
+pub follows-each : (state : State) (n : ℕ) (ops : List Op) (index : ℕ) (xs : List Entry) → Each (λ e. e.node ≡ n) xs → Follows ops index xs → ((k : ℕ) (next : Op) → k ≡ (state.share n).place → slice_get ops k ≡ Some next → k < index + length xs → is_load next.kind ≡ true) → index + length xs < suc (suc (state.share n).place) → Each (Done_or_load state) xs
 follows-each state n ops index [] mine f last short = tt
 follows-each state n ops index (x ∷ xs) mine f last short = (
   completed-or-load state n index (slice_get ops index) x mine.0 f.0 (omega arith) (λ next e at. last index next at e (omega arith)),
   follows-each state n ops (suc index) xs mine.1 f.1 (λ k next at e below. last k next at e (omega arith)) (omega arith),
 )
 
-both-some : (o : Option Op) (a b : Op) → o ≡ Some a → o ≡ Some b → a ≡ b
+pub both-some : (o : Option Op) (a b : Op) → o ≡ Some a → o ≡ Some b → a ≡ b
 both-some o a b e f = cc
 
-long-one : (l k p : ℕ) → (l ≡ p) ⊎ (l ≡ suc p) → k ≡ p → k < 0 + l → l ≡ suc p
+pub long-one : (l k p : ℕ) → (l ≡ p) ⊎ (l ≡ suc p) → k ≡ p → k < 0 + l → l ≡ suc p
 long-one l k p h e b = omega arith
 
-short-one : (l p : ℕ) → (l ≡ p) ⊎ (l ≡ suc p) → 0 + l < suc (suc p)
+pub short-one : (l p : ℕ) → (l ≡ p) ⊎ (l ≡ suc p) → 0 + l < suc (suc p)
 short-one l p h = omega arith
 
 module _ (trace : Trace) (past : Past) (sound : IsSound trace past) where

@@ -17,7 +17,7 @@ use Rattle.one_history.proofs.Moves.{IsBegunIn, never-begun}
 use Rattle.one_history.proofs.Order.{by-append}
 use Rattle.one_history.proofs.Runs.{sound-from, sound-start}
 
-by-kept : (state : State) (n : ℕ) (xs : List Entry) → entries_by n (kept_of state xs) ≡ kept_of state (entries_by n xs)
+pub by-kept : (state : State) (n : ℕ) (xs : List Entry) → entries_by n (kept_of state xs) ≡ kept_of state (entries_by n xs)
 by-kept state n [] = refl
 by-kept state n (x ∷ xs) = go (is_completed state x) (x.node == n) refl (by-kept state n xs)
   where
@@ -42,7 +42,7 @@ module _ (state : State) (n : ℕ) (ops : List Op) where
   First : ℕ → List Entry → Type 0
   First index xs = Follows ops index (kept_of state xs) × (index + length (kept_of state xs) ≡ place)
 
-  kept-first : (index : ℕ) (xs : List Entry) → Each (λ e. e.node ≡ n) xs → Follows ops index xs → index ≤ place → (index + length xs ≡ place) ⊎ (index + length xs ≡ suc place) → Follows ops index (kept_of state xs) × (index + length (kept_of state xs) ≡ place)
+  pub kept-first : (index : ℕ) (xs : List Entry) → Each (λ e. e.node ≡ n) xs → Follows ops index xs → index ≤ place → (index + length xs ≡ place) ⊎ (index + length xs ≡ suc place) → Follows ops index (kept_of state xs) × (index + length (kept_of state xs) ≡ place)
   kept-first index [] mine follows below count = (tt, omega arith)
   kept-first index (x ∷ xs) mine follows below count = go (nat_lt index place) refl xs mine.1 follows.1 (λ lt. kept-first (suc index) xs mine.1 follows.1 (omega arith) (moved count)) count
     where

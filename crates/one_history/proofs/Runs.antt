@@ -50,7 +50,7 @@ first-words size line =
     at-replicate n i h = get_or-replicate n i 0 0 h
 
 -- at the start each line is as it is at first
-first-line : (sizes : Sizes) (line : ℕ) → project sizes (start sizes).state (line_words sizes [] line) (answered_of sizes (start sizes) line) line ≡ first_line (line_words sizes [] line)
+pub first-line : (sizes : Sizes) (line : ℕ) → project sizes (start sizes).state (line_words sizes [] line) (answered_of sizes (start sizes) line) line ≡ first_line (line_words sizes [] line)
 unfolding project
 first-line sizes line =
     same_line _ _

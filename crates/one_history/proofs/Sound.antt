@@ -28,11 +28,11 @@ use Rattle.one_history.proofs.Project.{project-marks, project-other, project-row
 use Rattle.one_history.proofs.Sets.{IsRoomFor, cached-row}
 use Rattle.one_history.proofs.Shares.{IsOn, after_row_of}
 
-after-append : (flat : FlatMemory) (xs ys : List Entry) → after_from flat (xs ++ ys) ≡ after_from (after_from flat xs) ys
+pub after-append : (flat : FlatMemory) (xs ys : List Entry) → after_from flat (xs ++ ys) ≡ after_from (after_from flat xs) ys
 after-append flat [] ys = refl
 after-append flat (x ∷ xs) ys = after-append (after_entry flat x) xs ys
 
-legal-append : (flat : FlatMemory) (xs ys : List Entry) → IsLegalFrom flat xs → IsLegalFrom (after_from flat xs) ys → IsLegalFrom flat (xs ++ ys)
+pub legal-append : (flat : FlatMemory) (xs ys : List Entry) → IsLegalFrom flat xs → IsLegalFrom (after_from flat xs) ys → IsLegalFrom flat (xs ++ ys)
 legal-append flat [] ys h k = k
 legal-append flat (x ∷ xs) ys h k = (h.0, legal-append (after_entry flat x) xs ys h.1 k)
 
@@ -50,7 +50,7 @@ module _ (size : ℕ) (flat : FlatMemory) (line : ℕ) where
   Adds entries served = IsLegalFrom flat entries × (words_at size (after_from flat entries) line ≡ words_after served (words_at size flat line)) × ((q : ℕ) → q ≢ line → words_at size (after_from flat entries) q ≡ words_at size flat q)
 
 -- the entry of a node's next operation follows its entries
-next-entry : (trace : Trace) (node place line : ℕ) (op : Op) (on : Words) → IsNextOp trace node place line op → IsNext place (slice_get (program trace node) place) (entry_of node place op on)
+pub next-entry : (trace : Trace) (node place line : ℕ) (op : Op) (on : Words) → IsNextOp trace node place line op → IsNext place (slice_get (program trace node) place) (entry_of node place op on)
 next-entry trace node place line op on is = subst (λ o. IsNext place o (entry_of node place op on)) (sym is.0) (refl, refl, refl, λ write. rw write refl)
 
 module _ (trace : Trace) (positive : 0 < trace.sizes.words) (past : Past) (sound : IsSound trace past) (node line : ℕ) where

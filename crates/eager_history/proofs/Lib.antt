@@ -1,0 +1,13 @@
+pub mod InOrder
+pub mod Added
+pub mod LaneAges
+pub mod AgedProject
+pub mod Nodes
+pub mod SoundRow
+pub mod OwnRows
+pub mod Elsewhere
+pub mod Locals
+pub mod Takes
+pub mod Events
+pub mod Runs
+pub mod LineHistory
