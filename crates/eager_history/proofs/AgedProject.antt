@@ -1,27 +1,26 @@
 -- A row of the eager machine is that row of its line, with its ages, and leaves every other line as it was. So is a message that is taken.
-use Rattle.std.proofs.Common.{◌≡◌, ◌≢◌, ℕ, Bool, true, false, cond, ◌==◌, ◌⊎◌, List, [], ◌∷◌, ◌++◌, map, drop, length, append-nil, refl, arith, ap, sym, ◌∙◌, Option, None}
+use Rattle.std.proofs.Common.{◌≡◌, ◌≢◌, ℕ, Bool, true, false, cond, ◌==◌, ◌⊎◌, List, [], ◌∷◌, ◌++◌, map, drop, length, append-nil, refl, arith, ap, sym, ◌∙◌, None}
 use Rattle.std.proofs.lemmas.Bool.Decides.{nat_tests}
 use Rattle.line_map.specs.Sizes.{Sizes, home_of}
 use Rattle.op_model.specs.Events.Node.{messages}
 use Rattle.op_model.specs.Events.Step.{put_at, to_lane}
 use Rattle.op_model.specs.Lines.{Outcome}
 use Rattle.op_model.specs.Messages.{msg_line}
-use Rattle.op_model.specs.Operations.{Words}
 use Rattle.op_model.specs.Run.Runs.{entries_of}
 use Rattle.op_model.specs.Shares.{Lanes, Trace, want_on}
-use Rattle.line_invariant.specs.Line.{Line, addressed, taken, words_after, answered_after}
+use Rattle.line_invariant.specs.Line.{addressed, taken, answered_after}
 use Rattle.eager_model.specs.Types.{Class, Entry, Msg}
 use Rattle.eager_model.specs.Ages.{LineAges, sent_age, age_given, served_age}
 use Rattle.eager_model.specs.Line.{AgedLine, ages_of, aged_row, taken_age, last_after}
 use Rattle.line_invariant.specs.Line.{share_of}
-use Rattle.eager_model.specs.Node.{NodeAges, put_ages}
+use Rattle.eager_model.specs.Node.{put_ages}
 use Rattle.eager_model.specs.Runs.{AgedEntry, Past}
 use Rattle.one_history.specs.Project.{of_line, project}
 use Rattle.one_history.specs.Sound.{answered_of}
 use Rattle.one_history.proofs.Project.{project-row, project-other, project-taken, project-taken-other, project-marks}
 use Rattle.one_history.proofs.Shares.{IsOn, after_row_of, taken_of}
 use Rattle.eager_model.specs.History.{in_age_order}
-use Rattle.eager_history.specs.Project.{plain, without_ages, served_on, history_on, up_to, words_up_to, last_age, ages_on, aged_line}
+use Rattle.eager_history.specs.Project.{without_ages, served_on, history_on, up_to, last_age, ages_on, aged_line}
 use Rattle.eager_history.proofs.Added.{words_of, IsAdded}
 use Rattle.eager_history.proofs.LaneAges.{Ages, ages_sent, left_ages, ages-append, ages-taken, ages-taken-other, sent-here, sent-there}
 

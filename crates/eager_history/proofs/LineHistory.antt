@@ -1,16 +1,16 @@
 -- The history of a line is its entries in the order of their ages, without those that aren't completed. So it is legal, as these are loads, and has each node's operations on the line in the order of its program.
-use Rattle.std.proofs.Common.{◌≡◌, ◌≢◌, ℕ, zero, suc, ◌+◌, ◌<◌, Bool, true, false, cond, ◌==◌, ◌&&◌, ◌⊎◌, inl, inr, List, [], ◌∷◌, map, filter, take, drop, length, slice_get, refl, arith, ap, sym, ◌∙◌, subst, Option, Some, None}
+use Rattle.std.proofs.Common.{◌≡◌, ℕ, zero, suc, ◌+◌, Bool, true, false, cond, ◌==◌, ◌&&◌, ◌⊎◌, inl, inr, List, [], ◌∷◌, filter, take, drop, length, slice_get, refl, arith, ap, sym, ◌∙◌, subst, Option, Some, None}
 use Rattle.std.proofs.lemmas.Bool.Decides.{nat_tests}
 use Rattle.std.specs.FinMap as fin
 use Rattle.line_map.specs.Sizes.{Sizes, home_of, line_of}
 use Rattle.op_model.specs.Flat.{IsLegal}
 use Rattle.op_model.specs.Operations.{is_load}
-use Rattle.op_model.specs.Run.History.{Follows, IsEntryOf, IsNext, entries_by, is_completed, kept_of}
+use Rattle.op_model.specs.Run.History.{Follows, IsNext, entries_by, is_completed, kept_of}
 use Rattle.op_model.specs.Shares.{State, Trace, program, want_on}
 use Rattle.op_model.proofs.Plain.{eqb-self}
 use Rattle.line_invariant.specs.Rows.{wanting}
 use Rattle.eager_model.specs.Types.{Entry, Op, Want}
-use Rattle.eager_model.specs.History.{in_age_order, put_all, completed_on, aged_history, line_history}
+use Rattle.eager_model.specs.History.{in_age_order, line_history}
 use Rattle.eager_model.specs.Laws.{FollowsOn, NextOn, IsLineHistory}
 use Rattle.eager_model.specs.Runs.{AgedEntry, Past}
 use Rattle.eager_model.proofs.EachLine.{any-writes}

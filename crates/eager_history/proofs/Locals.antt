@@ -1,25 +1,24 @@
 -- What a node's own processor does keeps what holds of the eager machine: a hit, an operation that is begun, and an eviction. No line is ever called in for a link.
-use Rattle.std.proofs.Common.{◌≡◌, ◌≢◌, ℕ, ◌<◌, Bool, true, false, cond, ◌==◌, ◌&&◌, not, inl, inr, List, slice_get, refl, arith, ap, sym, ◌∙◌, subst, Option, Some, None, Result, Ok, Err}
+use Rattle.std.proofs.Common.{◌≡◌, ℕ, ◌<◌, Bool, true, false, cond, ◌==◌, ◌&&◌, not, inl, inr, slice_get, refl, arith, ap, sym, ◌∙◌, subst, Option, Some, None, Result, Ok, Err}
 use Rattle.std.proofs.lemmas.Bool.Decides.{nat_tests}
 use Rattle.line_map.specs.Sizes.{Sizes, home_of, line_of}
 use Rattle.op_model.specs.Events.Node.{EvictLine, HitNext, Input, IssueNext, NodeOutcome, ReclaimLine, bind, by_row, departs, evict_line, hit_next, is_outstanding, map_ok, with_next}
 use Rattle.op_model.specs.Events.Step.{none_off}
-use Rattle.op_model.specs.Lines.{Copy, Exclusive, Absent, Header, LineShare, NoService, Own, For, Outcome, Room, Service, is_empty, is_exclusive, words_of}
+use Rattle.op_model.specs.Lines.{Copy, LineShare, NoService, Own, For, Outcome, Service, is_exclusive, words_of}
 use Rattle.op_model.specs.Operations.{Words}
-use Rattle.op_model.specs.Shares.{Share, State, Trace, Unlinked, conflicts, copy_of, header_of, line_share, program, room_of, share_at, want_on}
+use Rattle.op_model.specs.Shares.{Share, Trace, Unlinked, conflicts, copy_of, line_share, program, room_of, share_at, want_on}
 use Rattle.op_model.specs.Tables.Processor.{evict, hit, reclaim, serves}
 use Rattle.op_model.proofs.Plain.{err-ok}
 use Rattle.op_model.proofs.Shares.{serves-copy, free-want, none-on}
 use Rattle.line_invariant.specs.Types.{EvictKind, LaneGate}
 use Rattle.line_invariant.specs.Line.{share_of}
-use Rattle.line_invariant.specs.Rows.{IsDoneRight, IsOwnServed, IsOwnWant, IsWantKept, wanting}
+use Rattle.line_invariant.specs.Rows.{IsDoneRight, IsOwnServed, IsOwnWant}
 use Rattle.line_invariant.proofs.Away.{away-evict}
 use Rattle.line_invariant.proofs.Basics.{if-either}
 use Rattle.eager_model.specs.Types.{Cause, Op, Want}
-use Rattle.eager_model.specs.Ages.{LineAges, ages_begun, ages_left, filled_age, with_copy}
-use Rattle.eager_model.specs.Good.{IsEagerGood}
+use Rattle.eager_model.specs.Ages.{LineAges, ages_begun, ages_left, filled_age}
 use Rattle.eager_model.specs.Line.{AgedLine, ages_of}
-use Rattle.eager_model.specs.Node.{NodeAges, aged, ages_by, issue_next, line_ages, row_done}
+use Rattle.eager_model.specs.Node.{aged, issue_next, line_ages}
 use Rattle.eager_model.specs.Rows.{begin_op}
 use Rattle.eager_model.specs.Runs.{Past, past_after}
 use Rattle.eager_model.proofs.EachLine.{any-idle, any-hit, any-begin, any-leave}
@@ -27,7 +26,7 @@ use Rattle.one_history.specs.Project.{project}
 use Rattle.one_history.specs.Sound.{IsNextOp, answered_of}
 use Rattle.one_history.proofs.Events.{IsQuiet, evict-quiet, hit-away}
 use Rattle.one_history.proofs.Order.{IsNextWant, begun-next}
-use Rattle.one_history.proofs.Owns.{IsOwn, own-ok, own-row}
+use Rattle.one_history.proofs.Owns.{own-ok, own-row}
 use Rattle.one_history.proofs.Sets.{room-issue}
 use Rattle.one_history.proofs.Shares.{copy-same}
 use Rattle.one_history.proofs.Sound.{IsServedIn}

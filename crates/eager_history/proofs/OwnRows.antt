@@ -1,23 +1,22 @@
 -- What a node of the eager machine does by its own share and ages is the row of the whole machine.
-use Rattle.std.proofs.Common.{◌≡◌, ◌≢◌, ℕ, ◌<◌, Bool, true, false, cond, ◌==◌, ◌⊎◌, List, [], ◌∷◌, ◌++◌, drop, length, refl, arith, ap, sym, ◌∙◌, subst, None}
+use Rattle.std.proofs.Common.{◌≡◌, ◌≢◌, ℕ, ◌<◌, Bool, true, false, cond, ◌==◌, ◌⊎◌, [], ◌++◌, drop, length, refl, arith, ap, sym, ◌∙◌, subst, None}
 use Rattle.std.proofs.lemmas.Bool.Decides.{nat_tests}
 use Rattle.line_map.specs.Sizes.{Sizes, home_of}
 use Rattle.op_model.specs.Events.Node.{Input, NodeOutcome, by_row, messages}
 use Rattle.op_model.specs.Events.Step.{Off, put_at, to_lane}
-use Rattle.op_model.specs.Lines.{LineShare, Outcome, is_empty}
+use Rattle.op_model.specs.Lines.{Outcome, is_empty}
 use Rattle.op_model.specs.Operations.{Words}
 use Rattle.op_model.specs.Run.Runs.{entries_of}
-use Rattle.op_model.specs.Shares.{Lanes, Share, Trace, copy_of, header_of, line_share, share_at, want_on}
+use Rattle.op_model.specs.Shares.{Lanes, Trace, copy_of, header_of, line_share, want_on}
 use Rattle.line_invariant.specs.Line.{share_of}
 use Rattle.line_invariant.specs.Rows.{IsDoneRight}
 use Rattle.eager_model.specs.Types.{Class}
 use Rattle.eager_model.specs.Ages.{LineAges, age_given, served_age, with_copy}
 use Rattle.eager_model.specs.Good.{IsEagerGood}
 use Rattle.eager_model.specs.Line.{AgedLine, ages_of, aged_row}
-use Rattle.eager_model.specs.Node.{Aged, NodeAges, ages_by, aged, line_ages, put_ages}
+use Rattle.eager_model.specs.Node.{Aged, ages_by, aged, line_ages, put_ages}
 use Rattle.eager_model.specs.Runs.{Past, past_after}
 use Rattle.eager_model.specs.Served.{age_served, IsServedAt}
-use Rattle.eager_model.specs.Step.{AgedDone}
 use Rattle.one_history.specs.Project.{project}
 use Rattle.one_history.specs.Sound.{answered_of}
 use Rattle.one_history.proofs.Order.{IsNextWant, next-on}

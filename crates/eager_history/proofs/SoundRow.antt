@@ -1,21 +1,21 @@
 -- A row that keeps what holds of its line keeps what holds of the eager machine: at its own line the machine after it is that line after it, every other line stays as it was, and what is served has its place in the line's history and in its node's program.
-use Rattle.std.proofs.Common.{◌≡◌, ◌≢◌, ℕ, ◌+◌, ◌≤◌, ◌<◌, append-nil, length, length-append, Bool, true, false, cond, ◌==◌, ◌⊎◌, List, [], ◌∷◌, ◌++◌, map, refl, arith, ap, sym, ◌∙◌, subst, Option, Some, None}
+use Rattle.std.proofs.Common.{◌≡◌, ◌≢◌, ℕ, ◌+◌, ◌≤◌, ◌<◌, append-nil, length, length-append, Bool, true, false, cond, ◌==◌, ◌⊎◌, List, [], ◌∷◌, ◌++◌, refl, arith, ap, sym, ◌∙◌, subst, Option, Some, None}
 use Rattle.std.proofs.lemmas.List.{map-append, length-map}
 use Rattle.std.proofs.lemmas.Bool.Decides.{nat_tests}
-use Rattle.line_map.specs.Sizes.{Sizes, home_of, line_of}
+use Rattle.line_map.specs.Sizes.{Sizes, home_of}
 use Rattle.op_model.specs.Events.Node.{messages}
 use Rattle.op_model.specs.Events.Step.{to_lane}
 use Rattle.op_model.specs.Flat.{IsLegal}
 use Rattle.op_model.specs.Lines.{Outcome, Service, NoService, Own, For}
 use Rattle.op_model.specs.Messages.{msg_content}
-use Rattle.op_model.specs.Operations.{Words, entry_of, is_load}
+use Rattle.op_model.specs.Operations.{Words, is_load}
 use Rattle.op_model.specs.Run.History.{entries_by}
 use Rattle.op_model.specs.Run.Runs.{entries_of, entry_for}
 use Rattle.op_model.specs.Shares.{Lanes, Trace, put_share, want_on}
 use Rattle.op_model.proofs.Plain.{eqb-self}
 use Rattle.line_invariant.specs.Line.{share_of, answered_after}
 use Rattle.line_invariant.specs.Rows.{IsDoneRight, IsLoadWanted}
-use Rattle.eager_model.specs.Types.{Class, Entry, Op, Want}
+use Rattle.eager_model.specs.Types.{Class, Entry, Want}
 use Rattle.eager_model.specs.Ages.{LineAges, age_given, served_age, sent_age}
 use Rattle.eager_model.specs.History.{in_age_order}
 use Rattle.eager_model.specs.Line.{AgedLine, ages_of, aged_row}
@@ -30,7 +30,7 @@ use Rattle.one_history.proofs.Order.{IsNextWant, begun-next, next-on}
 use Rattle.one_history.proofs.Sets.{IsRoomFor, cached-row}
 use Rattle.one_history.proofs.Shares.{IsOn}
 use Rattle.one_history.proofs.Sound.{IsServedIn}
-use Rattle.eager_history.specs.Project.{plain, without_ages, served_on, history_on, last_age, aged_line}
+use Rattle.eager_history.specs.Project.{plain, without_ages, served_on, last_age, aged_line}
 use Rattle.eager_history.specs.Sound.{Each, IsPastOf, IsLineSound, IsEagerSound}
 use Rattle.eager_history.proofs.Added.{IsAdded, none-added, load-added, for-added, write-added}
 use Rattle.eager_history.proofs.AgedProject.{row_past, with_lanes, entries_at, project-aged, project-aged-other}

@@ -16,13 +16,15 @@ use Rattle.one_history.specs.Sound.{answered_of}
 abbrev pub plain : List AgedEntry → List Entry
 plain entries = map (λ aged. aged.entry) entries
 
+-- the state and what was served, as the delayed core has them
 abbrev pub without_ages : Past → delayed.Past
 without_ages past = record { state = past.state; served = plain past.served }
 
--- the served operations of a line, as they were served, and in the order of its history
+-- the served operations of a line, in the order in which they were served
 abbrev pub served_on : Sizes → ℕ → List AgedEntry → List AgedEntry
 served_on sizes line served = filter (λ aged. line_of sizes aged.entry.word == line) served
 
+-- the same in the order of their ages
 abbrev pub history_on : Sizes → ℕ → List AgedEntry → List AgedEntry
 history_on sizes line served = in_age_order (served_on sizes line served)
 

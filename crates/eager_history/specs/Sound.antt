@@ -10,6 +10,7 @@ use Rattle.eager_model.specs.Good.{IsEagerGood}
 use Rattle.one_history.specs.Sound.{IsOrdered, IsCached}
 use Rattle.eager_history.specs.Project.{plain, without_ages, served_on, history_on, last_age, aged_line}
 
+-- it holds of each entry
 abbrev pub Each : (AgedEntry → Type 0) → List AgedEntry → Type 0
 Each P [] = Unit {0}
 Each P (aged ∷ entries) = P aged × Each P entries
