@@ -19,7 +19,7 @@ use Rattle.one_history.specs.Sound.{IsBegunWell, answered_of}
 use Rattle.one_history.proofs.Completed.{Done_or_load, both-some, by-node, follows-each, legal-kept, long-one, of-node, short-one}
 use Rattle.one_history.proofs.Completed as entries
 use Rattle.one_history.proofs.OneHistory.{by-kept, kept-first}
-use Rattle.eager_history.specs.Project.{plain, without_ages, served_on, history_on, aged_line}
+use Rattle.eager_history.specs.Project.{plain, plain_past, served_on, history_on, aged_line}
 use Rattle.eager_history.specs.Sound.{Each, IsEagerSound}
 use Rattle.eager_history.proofs.InOrder.{each-filter, each-put-all, filter-order}
 
@@ -127,9 +127,9 @@ module _ (trace : Trace) (past : Past) (sound : IsEagerSound trace past) where
           loads false write =
               let at : ℕ = line_of trace.sizes want.op.word in
               let wants : want_on trace.sizes (past.state.share n).want at ≡ wanting want.op want.marked = rw (b, eqb-self at) in
-              let no : answered_of trace.sizes (without_ages past) at n ≡ false = any-writes (home_of trace.sizes at) (aged_line trace.sizes past (sound.lines at).top at) (sound.lines at).good n want.op want.marked wants write in
+              let no : answered_of trace.sizes (plain_past past) at n ≡ false = any-writes (home_of trace.sizes at) (aged_line trace.sizes past (sound.lines at).top at) (sound.lines at).good n want.op want.marked wants write in
               let t : (length (entries_by n (plain past.served)) == suc (past.state.share n).place) ≡ true = grind (arith, nat_tests) in
-              let yes : answered_of trace.sizes (without_ages past) at n ≡ true = rw (b, eqb-self at, t) in
+              let yes : answered_of trace.sizes (plain_past past) at n ≡ true = rw (b, eqb-self at, t) in
               let d : true ≡ false = sym yes ∙ no in cc
 
   each-served : entries.Each (Done_or_load past.state) (plain past.served)

@@ -30,7 +30,7 @@ use Rattle.one_history.proofs.Owns.{own-ok, own-row}
 use Rattle.one_history.proofs.Sets.{room-issue}
 use Rattle.one_history.proofs.Shares.{copy-same}
 use Rattle.one_history.proofs.Sound.{IsServedIn}
-use Rattle.eager_history.specs.Project.{without_ages, aged_line}
+use Rattle.eager_history.specs.Project.{plain_past, aged_line}
 use Rattle.eager_history.specs.Sound.{IsEagerSound}
 use Rattle.eager_history.proofs.Elsewhere.{away-begin, away-asks}
 use Rattle.eager_history.proofs.OwnRows.{own-sound}
@@ -56,11 +56,11 @@ module _ (trace : Trace) (positive : 0 < trace.sizes.words) (past : Past) (sound
   keeps-ok node input x s o e = let is : x ≡ o = cc in subst (λ y. IsEagerSound trace (past_after sizes past (record { node = node; off = none_off; did = aged sizes node (share node) (past.ages.node node) input 0 y }))) is s
 
   -- nothing begun, no load served
-  none-served : (node line : ℕ) → (share node).want ≡ None → answered_of sizes (without_ages past) line node ≡ false
+  none-served : (node line : ℕ) → (share node).want ≡ None → answered_of sizes (plain_past past) line node ≡ false
   unfolding aged_line project
   none-served node line free = any-idle (home_of sizes line) (line_at line) (sound.lines line).good node (none-on sizes (share node).want line free)
 
-  own-served : (op : Op) (words : Words) (node line : ℕ) (service : Service) → IsNextOp trace node (share node).place line op → (share node).want ≡ None → IsOwnServed op words service → IsServedIn trace (without_ages past) node line words service
+  own-served : (op : Op) (words : Words) (node line : ℕ) (service : Service) → IsNextOp trace node (share node).place line op → (share node).want ≡ None → IsOwnServed op words service → IsServedIn trace (plain_past past) node line words service
   own-served op words node line NoService is free h = tt
   own-served op words node line (Own served on) is free h = (h.0, subst (IsNextOp trace node (share node).place line) (sym h.1) is, inl free, none-served node line free)
   own-served op words node line (For other on) is free h = absurd h
@@ -79,7 +79,7 @@ module _ (trace : Trace) (positive : 0 < trace.sizes.words) (past : Past) (sound
   memory-same node line e = let same : home_of sizes line ≡ node = grind (arith, nat_tests) in ap (λ k. (past.ages.node k).memory line) same
 
   hit-is : (op : Op) (row : LineShare) (node line : ℕ) → row.want ≡ None → IsNextOp trace node (share node).place line op → (share node).want ≡ None →
-      IsServedIn trace (without_ages past) node line (words_of row.copy) (hit op row).served × IsDoneRight (answered_of sizes (without_ages past) line node ≡ true) (hit op row).served (hit op row).done (hit op row).share.want
+      IsServedIn trace (plain_past past) node line (words_of row.copy) (hit op row).served × IsDoneRight (answered_of sizes (plain_past past) line node ≡ true) (hit op row).served (hit op row).done (hit op row).share.want
       × IsNextWant trace node (share node).place line (hit op row).share.want
   unfolding hit
   hit-is op row node line none is free = ((refl, is, inl free, none-served node line free), (none, refl), rw none tt)

@@ -24,7 +24,7 @@ use Rattle.one_history.proofs.Owns.{IsOwn, own-past}
 use Rattle.one_history.proofs.Sets.{IsRoomFor}
 use Rattle.one_history.proofs.Shares.{IsOn, copy-same}
 use Rattle.one_history.proofs.Sound.{IsServedIn}
-use Rattle.eager_history.specs.Project.{without_ages, aged_line}
+use Rattle.eager_history.specs.Project.{plain_past, aged_line}
 use Rattle.eager_history.specs.Sound.{IsEagerSound}
 use Rattle.eager_history.proofs.AgedProject.{row_past, with_lanes, entries_at}
 use Rattle.eager_history.proofs.LaneAges.{Ages, ages_sent}
@@ -43,7 +43,7 @@ module _ (trace : Trace) (past : Past) (node line : ℕ) (own outcome : Outcome)
   aged-past dropped did out served =
       (λ i. past_after sizes past (record { node = node; off = off; did = record did { out = out i; served = served i } }))
       ∙ (λ i. record {
-        state = (own-past trace (without_ages past) node line own outcome off lane is dropped i).state;
+        state = (own-past trace (plain_past past) node line own outcome off lane is dropped i).state;
         ages = record {
           node = put_at past.ages.node node (put_ages line did.ages (past.ages.node node));
           lane = λ a b class. drop (off a b class) (past.ages.lane a b class) ++ cond (a == node) (ages_sent did.given (to_lane b class (messages line (ap (λ o. o.sends) is.1 i)))) [];
@@ -94,8 +94,8 @@ module _ (trace : Trace) (positive : 0 < trace.sizes.words) (past : Past) (sound
     pub own-sound : (words : Words) →
         by.copy ≡ mine.copy → ((node == home) ≡ true → by.memory ≡ mine.memory) →
         ((a b : ℕ) (class : Class) → drop (off a b class) (past.state.lane a b class) ≡ lane a b class) →
-        IsServedIn trace (without_ages past) node line words outcome.served →
-        IsDoneRight (answered_of trace.sizes (without_ages past) line node ≡ true) outcome.served outcome.done outcome.share.want →
+        IsServedIn trace (plain_past past) node line words outcome.served →
+        IsDoneRight (answered_of trace.sizes (plain_past past) line node ≡ true) outcome.served outcome.done outcome.share.want →
         IsNextWant trace node (past.state.share node).place line outcome.share.want →
         IsRoomFor trace.sizes (past.state.share node) line outcome.share →
         ((past.state.share node).want ≡ None) ⊎ (want_on trace.sizes (past.state.share node).want line ≡ None → outcome.share.want ≡ None) →

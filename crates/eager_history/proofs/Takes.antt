@@ -29,7 +29,7 @@ use Rattle.one_history.proofs.Rows.{kept-fits}
 use Rattle.one_history.proofs.Sets.{waits-alone}
 use Rattle.one_history.proofs.Shares.{of_line-front, taken_of}
 use Rattle.one_history.proofs.Sound.{IsServedIn}
-use Rattle.eager_history.specs.Project.{without_ages, ages_on, aged_line}
+use Rattle.eager_history.specs.Project.{plain_past, ages_on, aged_line}
 use Rattle.eager_history.specs.Sound.{IsEagerSound}
 use Rattle.eager_history.proofs.AgedProject.{with_lanes, project-aged-taken, project-aged-taken-other}
 use Rattle.eager_history.proofs.Elsewhere.{away-meets, away-message}
@@ -112,7 +112,7 @@ module _ (trace : Trace) (past : Past) (sound : IsEagerSound trace past) where
   next-of : (n line : ℕ) (op : Op) (marked : Bool) → want_on sizes (share n).want line ≡ wanting op marked → IsNextOp trace n (share n).place line op
   next-of n line op marked e = begun-next trace n (share n).place (share n).want line op marked (sound.ordered n).begun e
 
-  served-in : (dst line : ℕ) (words : Words) (service : Service) → IsServedFor (λ n. want_on sizes (share n).want line) (answered_of sizes (without_ages past) line) dst words service → IsServedIn trace (without_ages past) dst line words service
+  served-in : (dst line : ℕ) (words : Words) (service : Service) → IsServedFor (λ n. want_on sizes (share n).want line) (answered_of sizes (plain_past past) line) dst words service → IsServedIn trace (plain_past past) dst line words service
   unfolding aged_line project
   served-in dst line words NoService h = tt
   served-in dst line words (Own op on) h =

@@ -17,8 +17,8 @@ abbrev pub plain : List AgedEntry → List Entry
 plain entries = map (λ aged. aged.entry) entries
 
 -- the state and what was served, as the delayed core has them
-abbrev pub without_ages : Past → delayed.Past
-without_ages past = record { state = past.state; served = plain past.served }
+abbrev pub plain_past : Past → delayed.Past
+plain_past past = record { state = past.state; served = plain past.served }
 
 -- the served operations of a line, in the order in which they were served
 abbrev pub served_on : Sizes → ℕ → List AgedEntry → List AgedEntry
@@ -51,7 +51,7 @@ ages_on line (m ∷ messages) ages = if msg_line m == line then first_age ages �
 unfoldable pub aged_line : Sizes → Past → ℕ → ℕ → AgedLine
 aged_line sizes past top line =
     record {
-      line = project sizes past.state (line_words sizes (plain (history_on sizes line past.served)) line) (answered_of sizes (without_ages past) line) line;
+      line = project sizes past.state (line_words sizes (plain (history_on sizes line past.served)) line) (answered_of sizes (plain_past past) line) line;
       copy_age = λ node. (past.ages.node node).copy line;
       memory_age = (past.ages.node (home_of sizes line)).memory line;
       lane_age = λ a b class. ages_on line (past.state.lane a b class) (past.ages.lane a b class);

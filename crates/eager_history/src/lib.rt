@@ -12,7 +12,7 @@ ghost use Rattle.eager_model.specs.Step.{AgedDone, effect};
 ghost use Rattle.eager_model.specs.Runs.{Past, run};
 ghost use Rattle.eager_model.specs.Laws.{EachLineHasOneHistory};
 ghost use Rattle.one_history.specs.Sound.{IsOrdered, IsCached};
-ghost use Rattle.eager_history.specs.Project.{without_ages};
+ghost use Rattle.eager_history.specs.Project.{plain_past};
 ghost use Rattle.eager_history.specs.Sound.{IsLineSound, IsEagerSound};
 
 /// After every run each line has one history: its completed operations in the order of their ages, those of one age as they were served. It is legal by itself, and has each node's completed operations on the line, each once and in the order of its program.
@@ -34,7 +34,7 @@ pub fn every_front()
 
 /// What each node has served, on all lines together, are the first operations of its program in order, and the one that it has begun stands last where it was served. A cache set never holds two lines, nor another one than its node waits for.
 pub fn every_node()
-    ensures ordered { (trace : Trace) (events : List Event) (past : Past) (node : ℕ) → 0 < trace.sizes.words → run trace events ≡ Some past → IsOrdered trace node (past.state.share node) (entries_by node (without_ages past).served) }
+    ensures ordered { (trace : Trace) (events : List Event) (past : Past) (node : ℕ) → 0 < trace.sizes.words → run trace events ≡ Some past → IsOrdered trace node (past.state.share node) (entries_by node (plain_past past).served) }
     ensures cached { (trace : Trace) (events : List Event) (past : Past) (node : ℕ) → 0 < trace.sizes.words → run trace events ≡ Some past → IsCached trace.sizes (past.state.share node) }
 {}
 
