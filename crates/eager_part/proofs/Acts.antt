@@ -12,11 +12,12 @@ use Rattle.op_model.specs.Tables.Processor.{evict, hit, serves}
 use Rattle.op_model.proofs.Shares.{none-on, serves-copy}
 use Rattle.one_history.proofs.Sets.{none-conflicts}
 use Rattle.lane_bounds.proofs.Allowed.{evict-allowed, hit-allowed}
+use Rattle.own_part.proofs.BegunRows.{begun-row, effect-row, free-row, quiet-row}
+use Rattle.own_part.proofs.ShareRows.{IsPartOf}
 use Rattle.eager_model.specs.Node.{local, taking}
 use Rattle.eager_model.specs.Rows.{begin_op}
 use Rattle.eager_part.specs.Part.{IsEagerPart}
 use Rattle.eager_part.proofs.Allowed.{eager-begin-allowed, eager-message-allowed}
-use Rattle.eager_part.proofs.BegunRows.{begun-row, effect-row, free-row, quiet-row}
 use Rattle.eager_part.proofs.EachAct.{each-act}
 use Rattle.eager_part.proofs.Kept.{begin-kept, evict-kept, hit-kept, message-kept}
 use Rattle.eager_part.proofs.Lines.{IsLine}
@@ -35,6 +36,12 @@ module _ (sizes : Sizes) (node : ℕ) (program : List Op) (share : Share) (part 
   pub line-of : (line : ℕ) → node ≡ home_of sizes line → IsLine (home_of sizes line) (at line)
   line-of line here = subst (λ k. IsLine k (at line)) here (part.lines line (sym here))
 
+  whole : IsPartOf IsLine sizes node program share
+  whole = record { outstanding = part.outstanding; lines = part.lines; pending = part.pending; sets = part.sets; headers = part.headers }
+
+  as-part : (next : Share) → IsPartOf IsLine sizes node program next → IsEagerPart sizes node program next
+  as-part next is = record { outstanding = is.outstanding; lines = is.lines; pending = is.pending; sets = is.sets; headers = is.headers }
+
   away : (line : ℕ) → conflicts sizes share line ≡ false → (b : ℕ) → b ≢ line → set_of sizes b ≡ set_of sizes line → is_empty (copy_of share b) ≡ true
   away line free b other same = none-conflicts sizes share line b free other same
 
@@ -42,29 +49,29 @@ module _ (sizes : Sizes) (node : ℕ) (program : List Op) (share : Share) (part 
   unfolding hit
   hits op free serve =
       let line = line_of sizes op.word in
-      free-row sizes node program share part line (hit op (at line))
+      as-part _ (free-row IsLine Unlinked sizes node program share whole line (hit op (at line))
       (hit-kept node (home_of sizes line) (at line) (line-of line) op) (λ _. hit-allowed room (at line) op)
-      free (none-on sizes share.want line free) (inl (λ none. absurd (serves-copy op (copy_of share line) serve none)))
+      free (none-on sizes share.want line free) (inl (λ none. absurd (serves-copy op (copy_of share line) serve none))))
 
   begins : (op : Op) → slice_get program share.place ≡ Some op → share.want ≡ None → conflicts sizes share (line_of sizes op.word) ≡ false → (o : Outcome) → begin_op node (home_of sizes (line_of sizes op.word)) room op (at (line_of sizes op.word)) ≡ Ok o → Keeps (by_row sizes node share (line_of sizes op.word) o)
   begins op next free alone o e =
       let line = line_of sizes op.word in
       let k = begin-kept node (home_of sizes line) (at line) (line-of line) room op o e in
-      elim k.1 [
-        | inl none ↦ free-row sizes node program share part line o k.0 (λ _. eager-begin-allowed room refl (at line) node (home_of sizes line) op o e) free (none ∙ none-on sizes share.want line free) (inr (away line alone))
-        | inr b ↦ begun-row sizes node program share part line o k.0 (λ _. eager-begin-allowed room refl (at line) node (home_of sizes line) op o e) op free next refl b.0 b.1 b.2 (away line alone)
-      ]
+      as-part _ (elim k.1 [
+        | inl none ↦ free-row IsLine Unlinked sizes node program share whole line o k.0 (λ _. eager-begin-allowed room refl (at line) node (home_of sizes line) op o e) free (none ∙ none-on sizes share.want line free) (inr (away line alone))
+        | inr b ↦ begun-row IsLine Unlinked sizes node program share whole line o k.0 (λ _. eager-begin-allowed room refl (at line) node (home_of sizes line) op o e) op free next refl b.0 b.1 b.2 (away line alone)
+      ])
 
   evicts : (line : ℕ) (kind : EvictKind) (o : Outcome) → evict node (home_of sizes line) kind (at line) ≡ Ok o → Keeps (by_row sizes node share line o)
   evicts line kind o e =
       let k = evict-kept node (home_of sizes line) (at line) (line-of line) kind o e in
-      quiet-row sizes node program share part line o k.0 (λ _. evict-allowed room (at line) node (home_of sizes line) kind o e) k.1
+      as-part _ (quiet-row IsLine Unlinked sizes node program share whole line o k.0 (λ _. evict-allowed room (at line) node (home_of sizes line) kind o e) k.1)
 
   takes : (src : ℕ) (m : Msg) → Keeps (by_row sizes node share (msg_line m) (taking sizes node share src m))
   takes src m =
       let line = msg_line m in
       let k = message-kept node (home_of sizes line) (at line) (line-of line) src (is_set_empty sizes share line) room (msg_content m) in
-      effect-row sizes node program share part line (taking sizes node share src m) k.0 (λ _. eager-message-allowed room refl (at line) node (home_of sizes line) src (is_set_empty sizes share line) (msg_content m)) k.1
+      as-part _ (effect-row IsLine Unlinked sizes node program share whole line (taking sizes node share src m) k.0 (λ _. eager-message-allowed room refl (at line) node (home_of sizes line) src (is_set_empty sizes share line) (msg_content m)) k.1)
 
 -- whatever a node does keeps what holds of its share
 pub eager_act : (sizes : Sizes) (node : ℕ) (program : List Op) (share : Share) (input : Input) (out : NodeOutcome) → IsEagerPart sizes node program share → local sizes node program share input ≡ Ok out → IsEagerPart sizes node program out.share

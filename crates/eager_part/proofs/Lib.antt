@@ -4,8 +4,6 @@ pub mod Beginnings
 pub mod Drains
 pub mod Kept
 pub mod Allowed
-pub mod ShareRows
-pub mod BegunRows
 pub mod EachAct
 pub mod Acts
 pub mod Fits
@@ -14,3 +12,12 @@ pub mod Sends
 pub mod Places
 pub mod Starts
 pub mod Needs
+pub mod Steps
+pub mod OwnRuns
+pub mod Events
+pub mod RangedRuns
+pub mod LaneRuns
+pub mod HomeWays
+pub mod Ways
+pub mod WayRuns
+pub mod BoundRuns

@@ -3,6 +3,8 @@
 //! `IsEagerPart` says it: what `IsOwnPart` says of a share of the delayed core, where lists cost no links, and of a line that drains what is due. The functions here do nothing; their contracts are the laws. What the handlers of an eager node ask for is told from it in `proofs/Needs`.
 #![tactic(auto)]
 
+pub mod runs;
+
 ghost use Rattle.std.specs.Prelude.{◌≡◌, ◌≢◌, ◌<◌, ◌≤◌, ℕ, List, Ok, length, All};
 ghost use Rattle.line_map.specs.Sizes.{Sizes, AreSizes, home_of};
 ghost use Rattle.op_model.specs.declared.operations.Op.{Op};

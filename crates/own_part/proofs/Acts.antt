@@ -19,11 +19,13 @@ use Rattle.op_model.proofs.Shares.{free-want, serves-copy}
 use Rattle.line_invariant.proofs.Basics.{if-either}
 use Rattle.one_history.proofs.Events.{header-kept, refuses}
 use Rattle.one_history.proofs.Sets.{none-conflicts}
-use Rattle.lane_bounds.proofs.Allowed.{begin-allowed, evict-allowed, hit-allowed, message-allowed}
-use Rattle.lane_bounds.proofs.Homes.{pending-stays}
+use Rattle.lane_bounds.proofs.Allowed.{IsAllowed, begin-allowed, evict-allowed, hit-allowed, message-allowed}
+use Rattle.lane_bounds.proofs.Homes.{links-bound, pending-stays}
 use Rattle.lane_bounds.proofs.Events.{not-full, call-allowed}
+use Rattle.lane_bounds.proofs.Kept.{held-within, within-held}
 use Rattle.own_part.proofs.BegunRows.{begun-row, effect-row, free-row, quiet-row}
 use Rattle.own_part.proofs.OwnRows.{begin-keeps, call-keeps, call-quiet, evict-keeps, hit-keeps}
+use Rattle.own_part.proofs.ShareRows.{IsPartOf}
 use Rattle.own_part.proofs.TakeRows.{message-keeps}
 
 module _ (charge : Charge) (sizes : Sizes) (node : ℕ) (program : List Op) (share : Share) (own : IsOwnPart charge sizes node program share) where
@@ -52,13 +54,31 @@ module _ (charge : Charge) (sizes : Sizes) (node : ℕ) (program : List Op) (sha
   away : (line : ℕ) → conflicts sizes share line ≡ false → (b : ℕ) → b ≢ line → set_of sizes b ≡ set_of sizes line → is_empty (copy_of share b) ≡ true
   away line free b other same = none-conflicts sizes share line b free other same
 
+  part : IsPartOf IsOwnLine sizes node program share
+  part = record { outstanding = own.outstanding; lines = own.lines; pending = own.pending; sets = own.sets; headers = own.headers }
+
+  -- a row takes links only where some are free
+  with-links : (line : ℕ) (o : Outcome) → ((node == home_of sizes line) ≡ true → IsAllowed room (header_of sizes share line) o.share.header) →
+      (((node == home_of sizes line) ≡ true → IsAllowed room (header_of sizes share line) o.share.header) → IsPartOf IsOwnLine sizes node program (by_row sizes node share line o).share) → IsOwnPart charge sizes node program (by_row sizes node share line o).share
+  with-links line o allowed row =
+      let next = (by_row sizes node share line o).share in
+      let kept = row allowed in
+      record {
+        outstanding = kept.outstanding;
+        lines = kept.lines;
+        pending = kept.pending;
+        links = held-within charge next sizes.links (λ linked. links-bound charge sizes share (node == home_of sizes line) line o.done o.share allowed linked (within-held charge share sizes.links own.links linked));
+        sets = kept.sets;
+        headers = kept.headers;
+      }
+
   -- a hit
   hits : (line : ℕ) (op : Op) → share.want ≡ None → serves op (copy_of share line) ≡ true → IsOwnPart charge sizes node program (by_row sizes node share line (hit op (at line))).share
   unfolding hit
   hits line op free serve =
-      free-row charge sizes node program share own line (hit op (at line))
-      (λ here. hit-keeps (home_of sizes line) op (at line) (own-line line here)) (λ _. hit-allowed room (at line) op)
-      free (none-on line free) (inl (λ none. absurd (serves-copy op (copy_of share line) serve none)))
+      with-links line (hit op (at line)) (λ _. hit-allowed room (at line) op)
+      (λ allowed. free-row IsOwnLine charge sizes node program share part line (hit op (at line)) (λ here. hit-keeps (home_of sizes line) op (at line) (own-line line here)) allowed
+      free (none-on line free) (inl (λ none. absurd (serves-copy op (copy_of share line) serve none))))
 
   keeps-hit : (next : Op) → share.want ≡ None → Keeps (hit_next sizes node share next)
   keeps-hit next free = if-either Keeps (serves next (copy_of share (line_of sizes next.word))) _ _ (λ serve. keeps-ok _ (hits (line_of sizes next.word) next free serve)) (λ _. keeps-error _)
@@ -68,10 +88,10 @@ module _ (charge : Charge) (sizes : Sizes) (node : ℕ) (program : List Op) (sha
   begins line op next on free alone (Err c) e = keeps-error c
   begins line op next on free alone (Ok o) e =
       let k = begin-keeps node (home_of sizes line) room op (at line) o (own-line line) e in
-      keeps-ok (by_row sizes node share line o) (elim k.1 [
-        | inl none ↦ free-row charge sizes node program share own line o k.0 (λ _. begin-allowed room (at line) node (home_of sizes line) op o e) free (none ∙ none-on line free) (inr (away line alone))
-        | inr b ↦ begun-row charge sizes node program share own line o k.0 (λ _. begin-allowed room (at line) node (home_of sizes line) op o e) op free next on b.0 b.1 b.2 (away line alone)
-      ])
+      keeps-ok (by_row sizes node share line o) (with-links line o (λ _. begin-allowed room (at line) node (home_of sizes line) op o e) (λ allowed. elim k.1 [
+        | inl none ↦ free-row IsOwnLine charge sizes node program share part line o k.0 allowed free (none ∙ none-on line free) (inr (away line alone))
+        | inr b ↦ begun-row IsOwnLine charge sizes node program share part line o k.0 allowed op free next on b.0 b.1 b.2 (away line alone)
+      ]))
 
   keeps-issue : (next : Op) → slice_get program share.place ≡ Some next → share.want ≡ None → Keeps (issue_next charge sizes node share next)
   keeps-issue next is free =
@@ -95,13 +115,13 @@ module _ (charge : Charge) (sizes : Sizes) (node : ℕ) (program : List Op) (sha
       go (Ok o) e =
           let k = evict-keeps node (home_of sizes line) kind (at line) o (own-line line) e in
           if-either Keeps (departs (node == home_of sizes line) kind && not gate) _ _ (λ _. keeps-error _)
-          (λ _. keeps-ok (by_row sizes node share line o) (quiet-row charge sizes node program share own line o k.0 (λ _. evict-allowed room (at line) node (home_of sizes line) kind o e) k.1))
+          (λ _. keeps-ok (by_row sizes node share line o) (with-links line o (λ _. evict-allowed room (at line) node (home_of sizes line) kind o e) (λ allowed. quiet-row IsOwnLine charge sizes node program share part line o k.0 allowed k.1)))
 
   -- a line is called in: it holds a link, and so its header is kept, and it is a line of this home
   calls : (line : ℕ) → is_pending (header_of sizes share line) ≡ false → holds_link room (header_of sizes share line) ≡ true → room.full ≡ false → IsOwnPart charge sizes node program (by_row sizes node share line (call_in (at line))).share
   calls line free holds more =
-      quiet-row charge sizes node program share own line (call_in (at line))
-      (λ here. call-keeps (home_of sizes line) room (at line) (own-line line here) free holds) (λ _. call-allowed room (at line) more) (call-quiet (at line))
+      with-links line (call_in (at line)) (λ _. call-allowed room (at line) more)
+      (λ allowed. quiet-row IsOwnLine charge sizes node program share part line (call_in (at line)) (λ here. call-keeps (home_of sizes line) room (at line) (own-line line here) free holds) allowed (call-quiet (at line)))
 
   keeps-reclaim : (line : ℕ) → Keeps (map_ok (by_row sizes node share line) (reclaim room (at line)))
   unfolding reclaim
@@ -117,8 +137,8 @@ module _ (charge : Charge) (sizes : Sizes) (node : ℕ) (program : List Op) (sha
   takes : (src : ℕ) (m : Msg) → IsOwnPart charge sizes node program (by_row sizes node share (msg_line m) (taking charge sizes node share src m)).share
   takes src m =
       let k = message-keeps node (home_of sizes (msg_line m)) src (is_set_empty sizes share (msg_line m)) room (at (msg_line m)) (own-line (msg_line m)) (msg_content m) in
-      effect-row charge sizes node program share own (msg_line m) (taking charge sizes node share src m) k.0
-      (λ _. message-allowed room (at (msg_line m)) node (home_of sizes (msg_line m)) src (is_set_empty sizes share (msg_line m)) (msg_content m)) k.1
+      with-links (msg_line m) (taking charge sizes node share src m) (λ _. message-allowed room (at (msg_line m)) node (home_of sizes (msg_line m)) src (is_set_empty sizes share (msg_line m)) (msg_content m))
+      (λ allowed. effect-row IsOwnLine charge sizes node program share part (msg_line m) (taking charge sizes node share src m) k.0 allowed k.1)
 
 module _ (charge : Charge) (sizes : Sizes) (node : ℕ) (program : List Op) (share : Share) (own : IsOwnPart charge sizes node program share) (src : ℕ) (m : Msg) where
   abbrev line : ℕ

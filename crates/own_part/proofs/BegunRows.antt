@@ -7,14 +7,14 @@ use Rattle.line_map.specs.Sizes.{Sizes, home_of, line_of, set_of}
 use Rattle.op_model.specs.declared.operations.Op.{Op}
 use Rattle.op_model.specs.declared.state.Want.{Want}
 use Rattle.op_model.specs.Operations.{is_load}
-use Rattle.op_model.specs.Lines.{Absent, Outcome, begun, is_empty, marked_load, is_outstanding}
-use Rattle.op_model.specs.OwnPart.{IsOutstanding, IsOwnLine, IsOwnPart}
+use Rattle.op_model.specs.Lines.{Absent, LineShare, Outcome, begun, is_empty, marked_load, is_outstanding}
+use Rattle.op_model.specs.OwnPart.{IsOutstanding}
 use Rattle.op_model.specs.Shares.{Charge, Share, copy_of, header_of, is_set_empty, line_share, put_share, room_of, want_after, want_on}
 use Rattle.op_model.proofs.Shares.{empty-copy, want-stays}
 use Rattle.one_history.proofs.Shares.{IsOn, copy-other, copy-same}
 use Rattle.lane_bounds.proofs.Allowed.{IsAllowed}
 use Rattle.own_part.proofs.Effects.{IsQuiet, IsMark, IsEnd, IsEffect}
-use Rattle.own_part.proofs.ShareRows.{AreOthersAway, all-empty, empty-set, next_share, own-row}
+use Rattle.own_part.proofs.ShareRows.{AreOthersAway, IsPartOf, all-empty, empty-set, next_share, part-row}
 
 -- what is begun on a line is of that line
 pub own-on : (sizes : Sizes) (want : Option Want) (line : ℕ) → IsOn sizes line (want_on sizes want line)
@@ -37,11 +37,11 @@ waited sizes (Some w) line e = go (line_of sizes w.op.word == line) refl e
 pub gone-after : (sizes : Sizes) (w : Want) (line : ℕ) (next : Option Want) → line_of sizes w.op.word ≡ line → want_after sizes (Some w) line next ≡ next
 gone-after sizes w line next on = ap (λ c. cond c next (Some w)) (eq-eqb (line_of sizes w.op.word) line on)
 
-module _ (charge : Charge) (sizes : Sizes) (node : ℕ) (program : List Op) (share : Share) (own : IsOwnPart charge sizes node program share) (line : ℕ) (o : Outcome)
-    (kept : node ≡ home_of sizes line → IsOwnLine (home_of sizes line) o.share)
+module _ (Line : ℕ → LineShare → Type 0) (charge : Charge) (sizes : Sizes) (node : ℕ) (program : List Op) (share : Share) (part : IsPartOf Line sizes node program share) (line : ℕ) (o : Outcome)
+    (kept : node ≡ home_of sizes line → Line (home_of sizes line) o.share)
     (allowed : (node == home_of sizes line) ≡ true → IsAllowed (room_of charge sizes share) (header_of sizes share line) o.share.header) where
   abbrev next : Share
-  next = next_share charge sizes node program share own line o
+  next = next_share Line charge sizes node program share part line o
 
   abbrev Outstanding : Option Want → Type 0
   Outstanding want = IsOutstanding sizes node program next want
@@ -77,16 +77,16 @@ module _ (charge : Charge) (sizes : Sizes) (node : ℕ) (program : List Op) (sha
   stays-outstanding stays still None h = tt
   stays-outstanding stays still (Some w) h = (ap (slice_get program) (place-stays still) ∙ h.0, set-stays (line_of sizes w.op.word) stays h.1, h.2)
 
-  pub quiet-row : IsQuiet (line_share sizes share line) o → IsOwnPart charge sizes node program next
+  pub quiet-row : IsQuiet (line_share sizes share line) o → IsPartOf Line sizes node program next
   quiet-row q =
-      own-row charge sizes node program share own line o
+      part-row Line charge sizes node program share part line o
       (record {
         kept = kept;
         allowed = allowed;
         on = subst (IsOn sizes line) (sym q.0) (own-on sizes share.want line);
         fits = inr (λ none. q.0 ∙ none);
         comes = inl q.2;
-        begun = subst Outstanding (sym (want-is ∙ ap (want_after sizes share.want line) q.0 ∙ want-stays sizes share.want line)) (stays-outstanding q.2 q.1 share.want own.outstanding);
+        begun = subst Outstanding (sym (want-is ∙ ap (want_after sizes share.want line) q.0 ∙ want-stays sizes share.want line)) (stays-outstanding q.2 q.1 share.want part.outstanding);
       })
 
   -- a load that waits is marked
@@ -105,16 +105,16 @@ module _ (charge : Charge) (sizes : Sizes) (node : ℕ) (program : List Op) (sha
       go true e = (ap (slice_get program) (place-stays still) ∙ h.0, set-stays (line_of sizes w.op.word) stays h.1, mark e (is_load w.op.kind) refl)
       go false e = stays-outstanding stays still (Some w) h
 
-  pub mark-row : IsMark node (home_of sizes line) (line_share sizes share line) o → IsOwnPart charge sizes node program next
+  pub mark-row : IsMark node (home_of sizes line) (line_share sizes share line) o → IsPartOf Line sizes node program next
   mark-row m =
-      own-row charge sizes node program share own line o
+      part-row Line charge sizes node program share part line o
       (record {
         kept = kept;
         allowed = allowed;
         on = subst (IsOn sizes line) (sym m.1) (marked-on (want_on sizes share.want line) (own-on sizes share.want line));
         fits = inr (λ none. m.1 ∙ ap marked_load none);
         comes = inl m.3;
-        begun = subst Outstanding (sym (want-is ∙ ap (want_after sizes share.want line) m.1)) (marked-outstanding m.0 m.3 m.2 share.want own.outstanding);
+        begun = subst Outstanding (sym (want-is ∙ ap (want_after sizes share.want line) m.1)) (marked-outstanding m.0 m.3 m.2 share.want part.outstanding);
       })
     where
       marked-on : (want : Option Want) → IsOn sizes line want → IsOn sizes line (marked_load want)
@@ -122,10 +122,10 @@ module _ (charge : Charge) (sizes : Sizes) (node : ℕ) (program : List Op) (sha
       marked-on (Some w) on = on
 
   -- the operation ends: the set of its line was empty
-  pub end-row : IsEnd (line_share sizes share line) o → IsOwnPart charge sizes node program next
+  pub end-row : IsEnd (line_share sizes share line) o → IsPartOf Line sizes node program next
   end-row e =
       let w = waited sizes share.want line e.1 in
-      own-row charge sizes node program share own line o
+      part-row Line charge sizes node program share part line o
       (record {
         kept = kept;
         allowed = allowed;
@@ -135,20 +135,20 @@ module _ (charge : Charge) (sizes : Sizes) (node : ℕ) (program : List Op) (sha
         begun = subst Outstanding (sym (want-is ∙ ap (λ k. want_after sizes k line o.share.want) w.1 ∙ gone-after sizes w.0 line o.share.want w.2 ∙ e.0)) tt;
       })
     where
-      away : (w : Want) → share.want ≡ Some w → line_of sizes w.op.word ≡ line → AreOthersAway charge sizes node program share own line o
+      away : (w : Want) → share.want ≡ Some w → line_of sizes w.op.word ≡ line → AreOthersAway Line charge sizes node program share part line o
       away w is on b other same =
-          let h : IsOutstanding sizes node program share (Some w) = subst (IsOutstanding sizes node program share) is own.outstanding in
+          let h : IsOutstanding sizes node program share (Some w) = subst (IsOutstanding sizes node program share) is part.outstanding in
           all-empty sizes share (line_of sizes w.op.word) b h.1 (same ∙ ap (set_of sizes) (sym on))
 
-  pub effect-row : IsEffect node (home_of sizes line) (line_share sizes share line) o → IsOwnPart charge sizes node program next
+  pub effect-row : IsEffect node (home_of sizes line) (line_share sizes share line) o → IsPartOf Line sizes node program next
   effect-row (inl q) = quiet-row q
   effect-row (inr (inl m)) = mark-row m
   effect-row (inr (inr e)) = end-row e
 
   -- nothing was begun, and nothing is
-  pub free-row : share.want ≡ None → o.share.want ≡ None → (copy_of share line ≡ Absent → o.share.copy ≡ Absent) ⊎ AreOthersAway charge sizes node program share own line o → IsOwnPart charge sizes node program next
+  pub free-row : share.want ≡ None → o.share.want ≡ None → (copy_of share line ≡ Absent → o.share.copy ≡ Absent) ⊎ AreOthersAway Line charge sizes node program share part line o → IsPartOf Line sizes node program next
   free-row free none comes =
-      own-row charge sizes node program share own line o
+      part-row Line charge sizes node program share part line o
       (record {
         kept = kept;
         allowed = allowed;
@@ -159,9 +159,9 @@ module _ (charge : Charge) (sizes : Sizes) (node : ℕ) (program : List Op) (sha
       })
 
   -- an operation begins: no other line stands in its set, and its own has no copy
-  pub begun-row : (op : Op) → share.want ≡ None → slice_get program share.place ≡ Some op → line_of sizes op.word ≡ line → o.share.want ≡ begun op → o.done ≡ false → o.share.copy ≡ Absent → AreOthersAway charge sizes node program share own line o → IsOwnPart charge sizes node program next
+  pub begun-row : (op : Op) → share.want ≡ None → slice_get program share.place ≡ Some op → line_of sizes op.word ≡ line → o.share.want ≡ begun op → o.done ≡ false → o.share.copy ≡ Absent → AreOthersAway Line charge sizes node program share part line o → IsPartOf Line sizes node program next
   begun-row op free at on begins still bare away =
-      own-row charge sizes node program share own line o
+      part-row Line charge sizes node program share part line o
       (record {
         kept = kept;
         allowed = allowed;

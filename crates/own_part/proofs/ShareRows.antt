@@ -1,20 +1,19 @@
 -- A row of one line, put into the share of its node, keeps what holds of the share: the other lines are as they were, each count
 -- changes by one line's, and the set of a line that the node waits for stays empty.
-use Rattle.std.proofs.Common.{◌≡◌, ◌≢◌, ◌⊎◌, inl, inr, ℕ, Bool, true, false, ◌==◌, ◌&&◌, not, List, refl, arith, sym, ap, subst, ◌∙◌, None}
+use Rattle.std.proofs.Common.{◌≡◌, ◌≢◌, ◌⊎◌, inl, inr, ℕ, ◌≤◌, Bool, true, false, ◌==◌, ◌&&◌, not, List, refl, arith, sym, ap, subst, ◌∙◌, None}
 use Rattle.std.proofs.lemmas.Bool.{not-true}
 use Rattle.std.proofs.lemmas.Bool.Decides.{nat_tests}
 use Rattle.std.specs.FinMap as fin
 use Rattle.line_map.specs.Sizes.{Sizes, home_of, set_of}
 use Rattle.op_model.specs.declared.operations.Op.{Op}
 use Rattle.op_model.specs.Lines.{Absent, Copy, LineShare, Outcome, is_empty}
-use Rattle.op_model.specs.OwnPart.{IsOutstanding, IsOwnLine, IsOwnPart}
-use Rattle.op_model.specs.Shares.{Charge, Share, copy_of, header_of, is_set_empty, line_share, put_share, room_of, want_on}
+use Rattle.op_model.specs.OwnPart.{IsOutstanding}
+use Rattle.op_model.specs.Shares.{Charge, Share, copy_of, header_of, is_set_empty, line_share, pending_lines, put_share, room_of, want_on}
 use Rattle.op_model.proofs.Shares.{empty-copy}
 use Rattle.one_history.proofs.Sets.{any-found, any-none, found}
 use Rattle.one_history.proofs.Shares.{IsOn, copy-other, copy-same, header-other, header-same, want-other, want-same}
 use Rattle.lane_bounds.proofs.Allowed.{IsAllowed}
-use Rattle.lane_bounds.proofs.Homes.{links-bound, own-after, pending-bound}
-use Rattle.lane_bounds.proofs.Kept.{held-within, within-held}
+use Rattle.lane_bounds.proofs.Homes.{own-after, pending-bound}
 
 -- a set is empty exactly where each line of it has no copy
 pub all-empty : (sizes : Sizes) (share : Share) (line b : ℕ) → is_set_empty sizes share line ≡ true → set_of sizes b ≡ set_of sizes line → is_empty (copy_of share b) ≡ true
@@ -44,7 +43,15 @@ empty-set sizes share line each = ap not (any-none (λ e. (set_of sizes e.0 == s
 pub full-copy : (copy : Copy) → is_empty copy ≡ false → copy ≡ Absent → ⊥
 full-copy copy e none = let d : true ≡ false = sym (ap is_empty none) ∙ e in cc
 
-module _ (charge : Charge) (sizes : Sizes) (node : ℕ) (program : List Op) (share : Share) (own : IsOwnPart charge sizes node program share) (line : ℕ) (o : Outcome) where
+-- What holds of a node's share, where this is said of a line at its home
+pub record IsPartOf (Line : ℕ → LineShare → Type 0) (sizes : Sizes) (node : ℕ) (program : List Op) (share : Share) : Type 0 where
+  pub outstanding : IsOutstanding sizes node program share share.want
+  pub lines : (line : ℕ) → home_of sizes line ≡ node → Line node (line_share sizes share line)
+  pub pending : pending_lines share ≤ sizes.pending
+  pub sets : (a b : ℕ) → is_empty (copy_of share a) ≡ false → is_empty (copy_of share b) ≡ false → set_of sizes a ≡ set_of sizes b → a ≡ b
+  pub headers : (line : ℕ) → home_of sizes line ≢ node → fin.get share.headers line ≡ None
+
+module _ (Line : ℕ → LineShare → Type 0) (charge : Charge) (sizes : Sizes) (node : ℕ) (program : List Op) (share : Share) (part : IsPartOf Line sizes node program share) (line : ℕ) (o : Outcome) where
   abbrev at_home : Bool
   at_home = node == home_of sizes line
 
@@ -62,15 +69,15 @@ module _ (charge : Charge) (sizes : Sizes) (node : ℕ) (program : List Op) (sha
   AreOthersAway = (b : ℕ) → b ≢ line → set_of sizes b ≡ set_of sizes line → is_empty (copy_of share b) ≡ true
 
   -- what a row of a line has to be
-  pub record IsOwnRow : Type 0 where
-    pub kept : node ≡ home_of sizes line → IsOwnLine (home_of sizes line) row
+  pub record IsPartRow : Type 0 where
+    pub kept : node ≡ home_of sizes line → Line (home_of sizes line) row
     pub allowed : at_home ≡ true → IsAllowed (room_of charge sizes share) (header_of sizes share line) row.header
     pub on : IsOn sizes line row.want
     pub fits : (share.want ≡ None) ⊎ (want_on sizes share.want line ≡ None → row.want ≡ None)
     pub comes : (copy_of share line ≡ Absent → row.copy ≡ Absent) ⊎ AreOthersAway
     pub begun : IsOutstanding sizes node program next_share next_share.want
 
-  module _ (is : IsOwnRow) where
+  module _ (is : IsPartRow) where
     same-line : node ≡ home_of sizes line → line_share sizes next_share line ≡ row
     same-line same =
         let here : at_home ≡ true = grind (arith, nat_tests) in
@@ -79,15 +86,15 @@ module _ (charge : Charge) (sizes : Sizes) (node : ℕ) (program : List Op) (sha
     other-line : (q : ℕ) → q ≢ line → line_share sizes next_share q ≡ line_share sizes share q
     other-line q other = λ i. record { copy = copy-other sizes at_home line o.done row share q other i; want = want-other sizes at_home line o.done row share q other is.on i; header = header-other sizes at_home line o.done row share q (inl other) i }
 
-    line-kept : (q : ℕ) → home_of sizes q ≡ node → IsOwnLine node (line_share sizes next_share q)
+    line-kept : (q : ℕ) → home_of sizes q ≡ node → Line node (line_share sizes next_share q)
     line-kept q home = go (q == line) refl
       where
-        go : (c : Bool) → (q == line) ≡ c → IsOwnLine node (line_share sizes next_share q)
+        go : (c : Bool) → (q == line) ≡ c → Line node (line_share sizes next_share q)
         go true e =
             let same : line ≡ q = grind (arith, nat_tests) in
             let here : node ≡ home_of sizes line = sym home ∙ ap (home_of sizes) (sym same) in
-            subst (λ k. IsOwnLine node (line_share sizes next_share k)) same (subst (IsOwnLine node) (sym (same-line here)) (subst (λ k. IsOwnLine k row) (sym here) (is.kept here)))
-        go false e = let other : q ≢ line = grind (arith, nat_tests) in subst (IsOwnLine node) (sym (other-line q other)) (own.lines q home)
+            subst (λ k. Line node (line_share sizes next_share k)) same (subst (Line node) (sym (same-line here)) (subst (λ k. Line k row) (sym here) (is.kept here)))
+        go false e = let other : q ≢ line = grind (arith, nat_tests) in subst (Line node) (sym (other-line q other)) (part.lines q home)
 
     full-before : (copy_of share line ≡ Absent → row.copy ≡ Absent) → is_empty (copy_of next_share line) ≡ false → is_empty (copy_of share line) ≡ false
     full-before stays full = go (is_empty (copy_of share line)) refl
@@ -106,13 +113,13 @@ module _ (charge : Charge) (sizes : Sizes) (node : ℕ) (program : List Op) (sha
         go true true e f comes = grind (arith, nat_tests)
         go false false e f comes =
             let p : a ≢ line = grind (arith, nat_tests) in let q : b ≢ line = grind (arith, nat_tests) in
-            own.sets a b (else-before a p x) (else-before b q y) same
+            part.sets a b (else-before a p x) (else-before b q y) same
         go true false e f (inl stays) =
             let p : a ≡ line = grind (arith, nat_tests) in let q : b ≢ line = grind (arith, nat_tests) in
-            own.sets a b (ap (λ k. is_empty (copy_of share k)) p ∙ full-before stays (ap (λ k. is_empty (copy_of next_share k)) (sym p) ∙ x)) (else-before b q y) same
+            part.sets a b (ap (λ k. is_empty (copy_of share k)) p ∙ full-before stays (ap (λ k. is_empty (copy_of next_share k)) (sym p) ∙ x)) (else-before b q y) same
         go false true e f (inl stays) =
             let p : a ≢ line = grind (arith, nat_tests) in let q : b ≡ line = grind (arith, nat_tests) in
-            own.sets a b (else-before a p x) (ap (λ k. is_empty (copy_of share k)) q ∙ full-before stays (ap (λ k. is_empty (copy_of next_share k)) (sym q) ∙ y)) same
+            part.sets a b (else-before a p x) (ap (λ k. is_empty (copy_of share k)) q ∙ full-before stays (ap (λ k. is_empty (copy_of next_share k)) (sym q) ∙ y)) same
         go true false e f (inr away) =
             let p : a ≡ line = grind (arith, nat_tests) in let q : b ≢ line = grind (arith, nat_tests) in
             absurd (let d : true ≡ false = sym (away b q (sym same ∙ ap (set_of sizes) p)) ∙ else-before b q y in cc)
@@ -121,7 +128,7 @@ module _ (charge : Charge) (sizes : Sizes) (node : ℕ) (program : List Op) (sha
             absurd (let d : true ≡ false = sym (away a p (same ∙ ap (set_of sizes) q)) ∙ else-before a p x in cc)
 
     headers-kept : (q : ℕ) → home_of sizes q ≢ node → fin.get next_share.headers q ≡ None
-    headers-kept q far = own-after charge sizes share at_home line o.done row q (own.headers q far) (go (q == line) refl)
+    headers-kept q far = own-after charge sizes share at_home line o.done row q (part.headers q far) (go (q == line) refl)
       where
         go : (c : Bool) → (q == line) ≡ c → (at_home ≡ false) ⊎ (q ≢ line)
         go true e =
@@ -133,13 +140,12 @@ module _ (charge : Charge) (sizes : Sizes) (node : ℕ) (program : List Op) (sha
             apart k h = grind (arith, nat_tests)
         go false e = inr (grind (arith, nat_tests))
 
-    pub own-row : IsOwnPart charge sizes node program next_share
-    own-row =
+    pub part-row : IsPartOf Line sizes node program next_share
+    part-row =
         record {
           outstanding = is.begun;
           lines = line-kept;
-          pending = pending-bound charge sizes share at_home line o.done row is.allowed own.pending;
-          links = held-within charge next_share sizes.links (λ linked. links-bound charge sizes share at_home line o.done row is.allowed linked (within-held charge share sizes.links own.links linked));
+          pending = pending-bound charge sizes share at_home line o.done row is.allowed part.pending;
           sets = sets-kept;
           headers = headers-kept;
         }
