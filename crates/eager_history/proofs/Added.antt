@@ -1,5 +1,5 @@
 -- A line's history after one more operation is served: a load on the words of its age, or a write of the greatest age on the newest words. It stays legal, and has each node's operations in their order.
-use Rattle.std.proofs.Common.{◌≡◌, ◌≢◌, ℕ, ◌≤◌, ◌<◌, Bool, true, false, cond, ◌==◌, nat_lt, List, [], ◌∷◌, ◌++◌, map, filter, append-nil, refl, arith, ap, sym, ◌∙◌, subst, Option, Some, None}
+use Rattle.std.proofs.Common.{◌≡◌, ◌≢◌, ℕ, ◌≤◌, ◌<◌, Bool, true, false, cond, ◌==◌, nat_lt, List, [], ◌∷◌, ◌++◌, append-nil, refl, arith, ap, sym, ◌∙◌, subst}
 use Rattle.std.proofs.lemmas.Bool.Decides.{nat_tests}
 use Rattle.std.proofs.lemmas.List.{map-append}
 use Rattle.std.proofs.lemmas.List.Elements.{filter-append}
@@ -13,7 +13,7 @@ use Rattle.op_model.specs.Run.History.{entries_by}
 use Rattle.op_model.specs.Shares.{Trace}
 use Rattle.line_invariant.specs.Line.{words_after}
 use Rattle.line_invariant.proofs.LocalNodes.{after-load}
-use Rattle.eager_model.specs.Types.{Entry, Op}
+use Rattle.eager_model.specs.Types.{Op}
 use Rattle.eager_model.specs.Runs.{AgedEntry}
 use Rattle.eager_model.specs.History.{put_by_age, in_age_order}
 use Rattle.eager_model.specs.Line.{last_after}
@@ -22,7 +22,7 @@ use Rattle.one_history.proofs.Flat.{entry-here, entry-legal}
 use Rattle.one_history.proofs.Order.{by-append}
 use Rattle.one_history.proofs.Sound.{after-append, legal-append}
 use Rattle.eager_history.specs.Project.{plain, served_on, history_on, up_to, words_up_to, last_age}
-use Rattle.eager_history.specs.Sound.{Each, IsPastOf}
+use Rattle.eager_history.specs.Sound.{IsPastOf}
 use Rattle.eager_history.proofs.InOrder as sorted
 
 -- the words of a line after these entries

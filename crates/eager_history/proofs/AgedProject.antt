@@ -1,27 +1,26 @@
 -- A row of the eager machine is that row of its line, with its ages, and leaves every other line as it was. So is a message that is taken.
-use Rattle.std.proofs.Common.{◌≡◌, ◌≢◌, ℕ, Bool, true, false, cond, ◌==◌, ◌⊎◌, List, [], ◌∷◌, ◌++◌, map, drop, length, append-nil, refl, arith, ap, sym, ◌∙◌, Option, None}
+use Rattle.std.proofs.Common.{◌≡◌, ◌≢◌, ℕ, Bool, true, false, cond, ◌==◌, ◌⊎◌, List, [], ◌∷◌, ◌++◌, map, drop, length, append-nil, refl, arith, ap, sym, ◌∙◌, None}
 use Rattle.std.proofs.lemmas.Bool.Decides.{nat_tests}
 use Rattle.line_map.specs.Sizes.{Sizes, home_of}
 use Rattle.op_model.specs.Events.Node.{messages}
 use Rattle.op_model.specs.Events.Step.{put_at, to_lane}
 use Rattle.op_model.specs.Lines.{Outcome}
 use Rattle.op_model.specs.Messages.{msg_line}
-use Rattle.op_model.specs.Operations.{Words}
 use Rattle.op_model.specs.Run.Runs.{entries_of}
 use Rattle.op_model.specs.Shares.{Lanes, Trace, want_on}
-use Rattle.line_invariant.specs.Line.{Line, addressed, taken, words_after, answered_after}
+use Rattle.line_invariant.specs.Line.{addressed, taken, answered_after}
 use Rattle.eager_model.specs.Types.{Class, Entry, Msg}
 use Rattle.eager_model.specs.Ages.{LineAges, sent_age, age_given, served_age}
 use Rattle.eager_model.specs.Line.{AgedLine, ages_of, aged_row, taken_age, last_after}
 use Rattle.line_invariant.specs.Line.{share_of}
-use Rattle.eager_model.specs.Node.{NodeAges, put_ages}
+use Rattle.eager_model.specs.Node.{put_ages}
 use Rattle.eager_model.specs.Runs.{AgedEntry, Past}
 use Rattle.one_history.specs.Project.{of_line, project}
 use Rattle.one_history.specs.Sound.{answered_of}
 use Rattle.one_history.proofs.Project.{project-row, project-other, project-taken, project-taken-other, project-marks}
 use Rattle.one_history.proofs.Shares.{IsOn, after_row_of, taken_of}
 use Rattle.eager_model.specs.History.{in_age_order}
-use Rattle.eager_history.specs.Project.{plain, without_ages, served_on, history_on, up_to, words_up_to, last_age, ages_on, aged_line}
+use Rattle.eager_history.specs.Project.{plain_past, served_on, history_on, up_to, last_age, ages_on, aged_line}
 use Rattle.eager_history.proofs.Added.{words_of, IsAdded}
 use Rattle.eager_history.proofs.LaneAges.{Ages, ages_sent, left_ages, ages-append, ages-taken, ages-taken-other, sent-here, sent-there}
 
@@ -80,12 +79,12 @@ module _ (trace : Trace) (past : Past) (node line : ℕ) (outcome : Outcome) (ag
 
     pub project-aged : told.copy ≡ ages.copy → ((node == home) ≡ true → told.memory ≡ ages.memory) → age_given (node == home) (share_of before.line node) (ages_of before node) ≡ given →
         IsAdded trace past.served line after.top node age outcome.served next.served →
-        ((n : ℕ) → answered_of sizes (without_ages next) line n ≡ answered_after node outcome.served outcome.done (answered_of sizes (without_ages past) line) n) →
+        ((n : ℕ) → answered_of sizes (plain_past next) line n ≡ answered_after node outcome.served outcome.done (answered_of sizes (plain_past past) line) n) →
         aged_line sizes next after.top line ≡ after
     unfolding aged_line project
     project-aged copies memory gives added marked =
         same_aged _ _
-        (project-row sizes past.state _ (answered_of sizes (without_ages past) line) node line outcome fits on _ (answered_of sizes (without_ages next) line) added.words marked)
+        (project-row sizes past.state _ (answered_of sizes (plain_past past) line) node line outcome fits on _ (answered_of sizes (plain_past next) line) added.words marked)
         (λ n. copy n (n == node) refl)
         (stored (home == node) (node == home) refl refl)
         (λ a b class. ages-append line (past.state.lane a b class) _ (past.ages.lane a b class) _ (paired a b class) ∙ ap (λ xs. ages_on line (past.state.lane a b class) (past.ages.lane a b class) ++ xs) (mine a b class (a == node)))
@@ -109,14 +108,14 @@ module _ (trace : Trace) (past : Past) (node line : ℕ) (outcome : Outcome) (ag
         mine a b class false = refl
 
   -- at the other lines
-  pub project-aged-other : (top q : ℕ) → q ≢ line → served_on sizes q next.served ≡ served_on sizes q past.served → ((n : ℕ) → answered_of sizes (without_ages next) q n ≡ answered_of sizes (without_ages past) q n) →
+  pub project-aged-other : (top q : ℕ) → q ≢ line → served_on sizes q next.served ≡ served_on sizes q past.served → ((n : ℕ) → answered_of sizes (plain_past next) q n ≡ answered_of sizes (plain_past past) q n) →
       aged_line sizes next top q ≡ aged_line sizes past top q
   unfolding aged_line project
   project-aged-other top q other same marked =
       same_aged _ _
-      (project-other sizes past.state (words_of sizes q (history_on sizes q next.served)) (answered_of sizes (without_ages next) q) node line outcome fits on q other
-      ∙ ap (λ s. project sizes past.state (words_of sizes q (in_age_order s)) (answered_of sizes (without_ages next) q) q) same
-      ∙ project-marks sizes past.state (words_of sizes q (history_on sizes q past.served)) (answered_of sizes (without_ages next) q) (answered_of sizes (without_ages past) q) q marked)
+      (project-other sizes past.state (words_of sizes q (history_on sizes q next.served)) (answered_of sizes (plain_past next) q) node line outcome fits on q other
+      ∙ ap (λ s. project sizes past.state (words_of sizes q (in_age_order s)) (answered_of sizes (plain_past next) q) q) same
+      ∙ project-marks sizes past.state (words_of sizes q (history_on sizes q past.served)) (answered_of sizes (plain_past next) q) (answered_of sizes (plain_past past) q) q marked)
       (λ n. copy n (n == node) refl)
       (stored (home_of sizes q == node) refl)
       (λ a b class. ages-append q (past.state.lane a b class) _ (past.ages.lane a b class) _ (paired a b class) ∙ ap (λ xs. ages_on q (past.state.lane a b class) (past.ages.lane a b class) ++ xs) (none_of a b class (a == node)) ∙ append-nil _)
@@ -148,9 +147,9 @@ module _ (sizes : Sizes) (past : Past) (src dst : ℕ) (class : Class) (rest : L
       }
   unfolding aged_line
   project-aged-taken line =
-      same_aged _ _ (project-taken sizes past.state _ (answered_of sizes (without_ages past) line) src dst class rest line) (λ n. refl) refl (λ a b k. ages-taken past.state.lane past.ages.lane src dst class rest line a b k) refl (λ at. refl) (λ n. refl)
+      same_aged _ _ (project-taken sizes past.state _ (answered_of sizes (plain_past past) line) src dst class rest line) (λ n. refl) refl (λ a b k. ages-taken past.state.lane past.ages.lane src dst class rest line a b k) refl (λ at. refl) (λ n. refl)
 
   pub project-aged-taken-other : (m : Msg) → past.state.lane src dst class ≡ m ∷ rest → (q : ℕ) → q ≢ msg_line m → aged_line sizes taken_past top q ≡ aged_line sizes past top q
   unfolding aged_line
   project-aged-taken-other m front q other =
-      same_aged _ _ (project-taken-other sizes past.state _ (answered_of sizes (without_ages past) q) src dst class rest m front q other) (λ n. refl) refl (λ a b k. ages-taken-other past.state.lane past.ages.lane src dst class rest m front q other a b k) refl (λ at. refl) (λ n. refl)
+      same_aged _ _ (project-taken-other sizes past.state _ (answered_of sizes (plain_past past) q) src dst class rest m front q other) (λ n. refl) refl (λ a b k. ages-taken-other past.state.lane past.ages.lane src dst class rest m front q other a b k) refl (λ at. refl) (λ n. refl)

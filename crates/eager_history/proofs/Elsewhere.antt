@@ -1,8 +1,8 @@
 -- A row elsewhere than at the line's home neither reads nor changes the header: there the eager rows are those of the delayed core.
-use Rattle.std.proofs.Common.{◌≡◌, ◌≢◌, ℕ, Bool, true, false, cond, ◌==◌, refl, arith, ap, sym, ◌∙◌, Result, Ok, Err}
+use Rattle.std.proofs.Common.{◌≡◌, ◌≢◌, ℕ, Bool, true, false, ◌==◌, refl, arith, ap, sym, ◌∙◌, Result, Ok}
 use Rattle.std.proofs.lemmas.Bool.{ne_eqb}
 use Rattle.std.proofs.lemmas.Bool.Decides.{nat_tests}
-use Rattle.op_model.specs.Lines.{Header, LineShare, Room, Outcome, sending}
+use Rattle.op_model.specs.Lines.{Header, LineShare, Room, Outcome}
 use Rattle.op_model.specs.Messages.{Content, FAck, FwdGet, FwdGetX, Get, GetX, Inv, InvAck, Nak, Nakc, Put, PutX, Rpl, ShWb, Wb}
 use Rattle.op_model.specs.Operations.{is_load}
 use Rattle.op_model.specs.Tables.Processor.{ask, serves}

@@ -1,16 +1,16 @@
 -- Each event of the eager machine keeps what holds of it.
-use Rattle.std.proofs.Common.{◌≡◌, ℕ, ◌<◌, Bool, true, false, List, [], ◌∷◌, map, filter, length, refl, ap, inl, sym, ◌∙◌, subst, Option, Some, None, Result, Ok, Err}
+use Rattle.std.proofs.Common.{◌≡◌, ℕ, ◌<◌, List, [], ◌∷◌, refl, ap, subst, Option, Some, None, Result, Ok, Err}
 use Rattle.line_map.specs.Sizes.{Sizes, home_of}
 use Rattle.op_model.specs.Events.Node.{EvictLine, HitNext, Input, IssueNext, NodeOutcome, ReclaimLine, TakeFrom, by_row, hit_next, map_ok}
 use Rattle.op_model.specs.Events.Node as delayed
 use Rattle.op_model.specs.Events.Step.{Off, has_room, none_off, one_off}
-use Rattle.op_model.specs.Shares.{Share, State, Trace, Unlinked, program}
+use Rattle.op_model.specs.Shares.{Share, Trace, program}
 use Rattle.op_model.proofs.Plain.{err-ok}
-use Rattle.line_invariant.specs.Types.{EvictKind, LaneEmpty}
-use Rattle.eager_model.specs.Types.{Cause, Class, Event, Evict, Hit, Issue, Msg, Op, Reclaim, Request, Take}
+use Rattle.line_invariant.specs.Types.{LaneEmpty}
+use Rattle.eager_model.specs.Types.{Cause, Class, Event, Evict, Hit, Issue, Msg, Reclaim, Request, Take, VictimUnasked}
 use Rattle.eager_model.specs.Node.{aged, issue_next, local}
 use Rattle.eager_model.specs.Runs.{Past, past_after}
-use Rattle.eager_model.specs.Step.{AgedDone, Call, and_answer, answer, at_node, effect, first_age, front}
+use Rattle.eager_model.specs.Step.{AgedDone, and_answer, answer, effect, first_age, front}
 use Rattle.eager_history.specs.Sound.{IsEagerSound}
 use Rattle.eager_history.proofs.Locals.{Keeps, keeps-next, keeps-hit, keeps-issue, keeps-evict, keeps-reclaim}
 use Rattle.eager_history.proofs.Takes.{keeps-message}
@@ -58,3 +58,13 @@ module _ (trace : Trace) (positive : 0 < trace.sizes.words) (past : Past) (sound
       acts node none_off input 0 (local sizes node (program trace node) (share node) input) (keeps-local node input (λ src m victim e. cc))
   keeps-event (Take src dst class victim) = takes src dst class victim (past.state.lane src dst class) refl
   keeps-event (Reclaim line) = acts (home_of sizes line) none_off (ReclaimLine line) 0 (local sizes (home_of sizes line) (program trace (home_of sizes line)) (share (home_of sizes line)) (ReclaimLine line)) (keeps-local (home_of sizes line) (ReclaimLine line) (λ src m victim e. cc))
+
+-- a message in front of a lane is taken, where no victim is given
+module _ (trace : Trace) (past : Past) (src dst : ℕ) (class : Class) (m : Msg) (rest : List Msg) (here : past.state.lane src dst class ≡ m ∷ rest) where
+  pub take-done : (done : AgedDone) × (effect trace.sizes (program trace) past.state past.ages (Take src dst class None) ≡ Ok done)
+  unfolding local
+  take-done = (_, ap (λ ms. and_answer (front src dst class None (past.ages.lane src dst class) ms) (answer trace.sizes (program trace) past.state past.ages)) here)
+
+  pub take-refused : (victim : ℕ) → effect trace.sizes (program trace) past.state past.ages (Take src dst class (Some victim)) ≡ Err VictimUnasked
+  unfolding local
+  take-refused victim = ap (λ ms. and_answer (front src dst class (Some victim) (past.ages.lane src dst class) ms) (answer trace.sizes (program trace) past.state past.ages)) here

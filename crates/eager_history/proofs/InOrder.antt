@@ -1,10 +1,9 @@
 -- Entries in the order of their ages. One more entry goes behind all that are no older: a load changes no words, and a write of the greatest age goes to the end.
-use Rattle.std.proofs.Common.{◌≡◌, ◌≢◌, ℕ, ◌≤◌, ◌<◌, Bool, true, false, cond, ◌==◌, nat_lt, ◌&&◌, List, [], ◌∷◌, ◌++◌, map, filter, append-nil, refl, arith, ap, sym, ◌∙◌, subst}
+use Rattle.std.proofs.Common.{◌≡◌, ℕ, ◌≤◌, ◌<◌, Bool, true, false, cond, ◌==◌, nat_lt, List, [], ◌∷◌, ◌++◌, filter, append-nil, refl, arith, ap, sym, ◌∙◌, subst}
 use Rattle.std.proofs.lemmas.Bool.Decides.{nat_tests}
 use Rattle.op_model.specs.Flat.{FlatMemory, IsLegalAt, IsLegalFrom, after_entry, after_from}
 use Rattle.op_model.specs.Operations.{is_load}
 use Rattle.op_model.specs.Run.History.{entries_by}
-use Rattle.eager_model.specs.Types.{Entry}
 use Rattle.eager_model.specs.Runs.{AgedEntry}
 use Rattle.eager_model.specs.History.{put_by_age, put_all, in_age_order}
 use Rattle.eager_history.specs.Project.{plain, up_to, last_age}

@@ -1,16 +1,16 @@
 -- The history of a line is its entries in the order of their ages, without those that aren't completed. So it is legal, as these are loads, and has each node's operations on the line in the order of its program.
-use Rattle.std.proofs.Common.{◌≡◌, ◌≢◌, ℕ, zero, suc, ◌+◌, ◌<◌, Bool, true, false, cond, ◌==◌, ◌&&◌, ◌⊎◌, inl, inr, List, [], ◌∷◌, map, filter, take, drop, length, slice_get, refl, arith, ap, sym, ◌∙◌, subst, Option, Some, None}
+use Rattle.std.proofs.Common.{◌≡◌, ℕ, zero, suc, ◌+◌, Bool, true, false, cond, ◌==◌, ◌&&◌, ◌⊎◌, inl, inr, List, [], ◌∷◌, filter, take, drop, length, slice_get, refl, arith, ap, sym, ◌∙◌, subst, Option, Some, None}
 use Rattle.std.proofs.lemmas.Bool.Decides.{nat_tests}
 use Rattle.std.specs.FinMap as fin
 use Rattle.line_map.specs.Sizes.{Sizes, home_of, line_of}
 use Rattle.op_model.specs.Flat.{IsLegal}
 use Rattle.op_model.specs.Operations.{is_load}
-use Rattle.op_model.specs.Run.History.{Follows, IsEntryOf, IsNext, entries_by, is_completed, kept_of}
+use Rattle.op_model.specs.Run.History.{Follows, IsNext, entries_by, is_completed, kept_of}
 use Rattle.op_model.specs.Shares.{State, Trace, program, want_on}
 use Rattle.op_model.proofs.Plain.{eqb-self}
 use Rattle.line_invariant.specs.Rows.{wanting}
 use Rattle.eager_model.specs.Types.{Entry, Op, Want}
-use Rattle.eager_model.specs.History.{in_age_order, put_all, completed_on, aged_history, line_history}
+use Rattle.eager_model.specs.History.{in_age_order, line_history}
 use Rattle.eager_model.specs.Laws.{FollowsOn, NextOn, IsLineHistory}
 use Rattle.eager_model.specs.Runs.{AgedEntry, Past}
 use Rattle.eager_model.proofs.EachLine.{any-writes}
@@ -19,7 +19,7 @@ use Rattle.one_history.specs.Sound.{IsBegunWell, answered_of}
 use Rattle.one_history.proofs.Completed.{Done_or_load, both-some, by-node, follows-each, legal-kept, long-one, of-node, short-one}
 use Rattle.one_history.proofs.Completed as entries
 use Rattle.one_history.proofs.OneHistory.{by-kept, kept-first}
-use Rattle.eager_history.specs.Project.{plain, without_ages, served_on, history_on, aged_line}
+use Rattle.eager_history.specs.Project.{plain, plain_past, served_on, history_on, aged_line}
 use Rattle.eager_history.specs.Sound.{Each, IsEagerSound}
 use Rattle.eager_history.proofs.InOrder.{each-filter, each-put-all, filter-order}
 
@@ -127,9 +127,9 @@ module _ (trace : Trace) (past : Past) (sound : IsEagerSound trace past) where
           loads false write =
               let at : ℕ = line_of trace.sizes want.op.word in
               let wants : want_on trace.sizes (past.state.share n).want at ≡ wanting want.op want.marked = rw (b, eqb-self at) in
-              let no : answered_of trace.sizes (without_ages past) at n ≡ false = any-writes (home_of trace.sizes at) (aged_line trace.sizes past (sound.lines at).top at) (sound.lines at).good n want.op want.marked wants write in
+              let no : answered_of trace.sizes (plain_past past) at n ≡ false = any-writes (home_of trace.sizes at) (aged_line trace.sizes past (sound.lines at).top at) (sound.lines at).good n want.op want.marked wants write in
               let t : (length (entries_by n (plain past.served)) == suc (past.state.share n).place) ≡ true = grind (arith, nat_tests) in
-              let yes : answered_of trace.sizes (without_ages past) at n ≡ true = rw (b, eqb-self at, t) in
+              let yes : answered_of trace.sizes (plain_past past) at n ≡ true = rw (b, eqb-self at, t) in
               let d : true ≡ false = sym yes ∙ no in cc
 
   each-served : entries.Each (Done_or_load past.state) (plain past.served)

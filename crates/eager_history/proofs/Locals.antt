@@ -1,25 +1,24 @@
 -- What a node's own processor does keeps what holds of the eager machine: a hit, an operation that is begun, and an eviction. No line is ever called in for a link.
-use Rattle.std.proofs.Common.{◌≡◌, ◌≢◌, ℕ, ◌<◌, Bool, true, false, cond, ◌==◌, ◌&&◌, not, inl, inr, List, slice_get, refl, arith, ap, sym, ◌∙◌, subst, Option, Some, None, Result, Ok, Err}
+use Rattle.std.proofs.Common.{◌≡◌, ℕ, ◌<◌, Bool, true, false, cond, ◌==◌, ◌&&◌, not, inl, inr, slice_get, refl, arith, ap, sym, ◌∙◌, subst, Option, Some, None, Result, Ok, Err}
 use Rattle.std.proofs.lemmas.Bool.Decides.{nat_tests}
 use Rattle.line_map.specs.Sizes.{Sizes, home_of, line_of}
 use Rattle.op_model.specs.Events.Node.{EvictLine, HitNext, Input, IssueNext, NodeOutcome, ReclaimLine, bind, by_row, departs, evict_line, hit_next, is_outstanding, map_ok, with_next}
 use Rattle.op_model.specs.Events.Step.{none_off}
-use Rattle.op_model.specs.Lines.{Copy, Exclusive, Absent, Header, LineShare, NoService, Own, For, Outcome, Room, Service, is_empty, is_exclusive, words_of}
+use Rattle.op_model.specs.Lines.{Copy, LineShare, NoService, Own, For, Outcome, Service, is_exclusive, words_of}
 use Rattle.op_model.specs.Operations.{Words}
-use Rattle.op_model.specs.Shares.{Share, State, Trace, Unlinked, conflicts, copy_of, header_of, line_share, program, room_of, share_at, want_on}
+use Rattle.op_model.specs.Shares.{Share, Trace, Unlinked, conflicts, copy_of, line_share, program, room_of, share_at, want_on}
 use Rattle.op_model.specs.Tables.Processor.{evict, hit, reclaim, serves}
 use Rattle.op_model.proofs.Plain.{err-ok}
 use Rattle.op_model.proofs.Shares.{serves-copy, free-want, none-on}
 use Rattle.line_invariant.specs.Types.{EvictKind, LaneGate}
 use Rattle.line_invariant.specs.Line.{share_of}
-use Rattle.line_invariant.specs.Rows.{IsDoneRight, IsOwnServed, IsOwnWant, IsWantKept, wanting}
+use Rattle.line_invariant.specs.Rows.{IsDoneRight, IsOwnServed, IsOwnWant}
 use Rattle.line_invariant.proofs.Away.{away-evict}
 use Rattle.line_invariant.proofs.Basics.{if-either}
 use Rattle.eager_model.specs.Types.{Cause, Op, Want}
-use Rattle.eager_model.specs.Ages.{LineAges, ages_begun, ages_left, filled_age, with_copy}
-use Rattle.eager_model.specs.Good.{IsEagerGood}
+use Rattle.eager_model.specs.Ages.{LineAges, ages_begun, ages_left, filled_age}
 use Rattle.eager_model.specs.Line.{AgedLine, ages_of}
-use Rattle.eager_model.specs.Node.{NodeAges, aged, ages_by, issue_next, line_ages, row_done}
+use Rattle.eager_model.specs.Node.{aged, issue_next, line_ages}
 use Rattle.eager_model.specs.Rows.{begin_op}
 use Rattle.eager_model.specs.Runs.{Past, past_after}
 use Rattle.eager_model.proofs.EachLine.{any-idle, any-hit, any-begin, any-leave}
@@ -27,11 +26,11 @@ use Rattle.one_history.specs.Project.{project}
 use Rattle.one_history.specs.Sound.{IsNextOp, answered_of}
 use Rattle.one_history.proofs.Events.{IsQuiet, evict-quiet, hit-away}
 use Rattle.one_history.proofs.Order.{IsNextWant, begun-next}
-use Rattle.one_history.proofs.Owns.{IsOwn, own-ok, own-row}
+use Rattle.one_history.proofs.Owns.{own-ok, own-row}
 use Rattle.one_history.proofs.Sets.{room-issue}
 use Rattle.one_history.proofs.Shares.{copy-same}
 use Rattle.one_history.proofs.Sound.{IsServedIn}
-use Rattle.eager_history.specs.Project.{without_ages, aged_line}
+use Rattle.eager_history.specs.Project.{plain_past, aged_line}
 use Rattle.eager_history.specs.Sound.{IsEagerSound}
 use Rattle.eager_history.proofs.Elsewhere.{away-begin, away-asks}
 use Rattle.eager_history.proofs.OwnRows.{own-sound}
@@ -57,11 +56,11 @@ module _ (trace : Trace) (positive : 0 < trace.sizes.words) (past : Past) (sound
   keeps-ok node input x s o e = let is : x ≡ o = cc in subst (λ y. IsEagerSound trace (past_after sizes past (record { node = node; off = none_off; did = aged sizes node (share node) (past.ages.node node) input 0 y }))) is s
 
   -- nothing begun, no load served
-  none-served : (node line : ℕ) → (share node).want ≡ None → answered_of sizes (without_ages past) line node ≡ false
+  none-served : (node line : ℕ) → (share node).want ≡ None → answered_of sizes (plain_past past) line node ≡ false
   unfolding aged_line project
   none-served node line free = any-idle (home_of sizes line) (line_at line) (sound.lines line).good node (none-on sizes (share node).want line free)
 
-  own-served : (op : Op) (words : Words) (node line : ℕ) (service : Service) → IsNextOp trace node (share node).place line op → (share node).want ≡ None → IsOwnServed op words service → IsServedIn trace (without_ages past) node line words service
+  own-served : (op : Op) (words : Words) (node line : ℕ) (service : Service) → IsNextOp trace node (share node).place line op → (share node).want ≡ None → IsOwnServed op words service → IsServedIn trace (plain_past past) node line words service
   own-served op words node line NoService is free h = tt
   own-served op words node line (Own served on) is free h = (h.0, subst (IsNextOp trace node (share node).place line) (sym h.1) is, inl free, none-served node line free)
   own-served op words node line (For other on) is free h = absurd h
@@ -80,7 +79,7 @@ module _ (trace : Trace) (positive : 0 < trace.sizes.words) (past : Past) (sound
   memory-same node line e = let same : home_of sizes line ≡ node = grind (arith, nat_tests) in ap (λ k. (past.ages.node k).memory line) same
 
   hit-is : (op : Op) (row : LineShare) (node line : ℕ) → row.want ≡ None → IsNextOp trace node (share node).place line op → (share node).want ≡ None →
-      IsServedIn trace (without_ages past) node line (words_of row.copy) (hit op row).served × IsDoneRight (answered_of sizes (without_ages past) line node ≡ true) (hit op row).served (hit op row).done (hit op row).share.want
+      IsServedIn trace (plain_past past) node line (words_of row.copy) (hit op row).served × IsDoneRight (answered_of sizes (plain_past past) line node ≡ true) (hit op row).served (hit op row).done (hit op row).share.want
       × IsNextWant trace node (share node).place line (hit op row).share.want
   unfolding hit
   hit-is op row node line none is free = ((refl, is, inl free, none-served node line free), (none, refl), rw none tt)

@@ -1,5 +1,5 @@
 -- The nodes after a row: each one's entries in the order of its program, and whether the load that it has begun was served.
-use Rattle.std.proofs.Common.{◌≡◌, ◌≢◌, ℕ, inl, inr, append-nil, slice_get, Bool, true, false, cond, ◌==◌, ◌⊎◌, List, [], ◌∷◌, ◌++◌, refl, arith, ap, sym, ◌∙◌, subst, Option, Some, None}
+use Rattle.std.proofs.Common.{◌≡◌, ◌≢◌, ℕ, inl, inr, append-nil, slice_get, Bool, true, false, cond, ◌==◌, ◌⊎◌, List, [], ◌∷◌, ◌++◌, refl, arith, sym, ◌∙◌, subst, Option, Some, None}
 use Rattle.std.proofs.lemmas.Bool.Decides.{nat_tests}
 use Rattle.line_map.specs.Sizes.{line_of}
 use Rattle.op_model.specs.declared.operations.Entry.{Entry}
@@ -114,4 +114,3 @@ not-yet trace past node line words (Own op on) false want well right still e = a
 not-yet trace past node line words (Own op on) true want well right still e = cc
 not-yet trace past node line words (For r on) true want well right still e = cc
 not-yet trace past node line words (For r on) false want well right still e = let apart = well.3 in let off : (node == r) ≡ false = grind (arith, nat_tests) in rw off at e
-

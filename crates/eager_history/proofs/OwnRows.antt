@@ -1,23 +1,22 @@
 -- What a node of the eager machine does by its own share and ages is the row of the whole machine.
-use Rattle.std.proofs.Common.{◌≡◌, ◌≢◌, ℕ, ◌<◌, Bool, true, false, cond, ◌==◌, ◌⊎◌, List, [], ◌∷◌, ◌++◌, drop, length, refl, arith, ap, sym, ◌∙◌, subst, None}
+use Rattle.std.proofs.Common.{◌≡◌, ◌≢◌, ℕ, ◌<◌, Bool, true, false, cond, ◌==◌, ◌⊎◌, [], ◌++◌, drop, length, refl, arith, ap, sym, ◌∙◌, subst, None}
 use Rattle.std.proofs.lemmas.Bool.Decides.{nat_tests}
 use Rattle.line_map.specs.Sizes.{Sizes, home_of}
 use Rattle.op_model.specs.Events.Node.{Input, NodeOutcome, by_row, messages}
 use Rattle.op_model.specs.Events.Step.{Off, put_at, to_lane}
-use Rattle.op_model.specs.Lines.{LineShare, Outcome, is_empty}
+use Rattle.op_model.specs.Lines.{Outcome, is_empty}
 use Rattle.op_model.specs.Operations.{Words}
 use Rattle.op_model.specs.Run.Runs.{entries_of}
-use Rattle.op_model.specs.Shares.{Lanes, Share, Trace, copy_of, header_of, line_share, share_at, want_on}
+use Rattle.op_model.specs.Shares.{Lanes, Trace, copy_of, header_of, line_share, want_on}
 use Rattle.line_invariant.specs.Line.{share_of}
 use Rattle.line_invariant.specs.Rows.{IsDoneRight}
 use Rattle.eager_model.specs.Types.{Class}
 use Rattle.eager_model.specs.Ages.{LineAges, age_given, served_age, with_copy}
 use Rattle.eager_model.specs.Good.{IsEagerGood}
 use Rattle.eager_model.specs.Line.{AgedLine, ages_of, aged_row}
-use Rattle.eager_model.specs.Node.{Aged, NodeAges, ages_by, aged, line_ages, put_ages}
+use Rattle.eager_model.specs.Node.{Aged, ages_by, aged, line_ages, put_ages}
 use Rattle.eager_model.specs.Runs.{Past, past_after}
 use Rattle.eager_model.specs.Served.{age_served, IsServedAt}
-use Rattle.eager_model.specs.Step.{AgedDone}
 use Rattle.one_history.specs.Project.{project}
 use Rattle.one_history.specs.Sound.{answered_of}
 use Rattle.one_history.proofs.Order.{IsNextWant, next-on}
@@ -25,7 +24,7 @@ use Rattle.one_history.proofs.Owns.{IsOwn, own-past}
 use Rattle.one_history.proofs.Sets.{IsRoomFor}
 use Rattle.one_history.proofs.Shares.{IsOn, copy-same}
 use Rattle.one_history.proofs.Sound.{IsServedIn}
-use Rattle.eager_history.specs.Project.{without_ages, aged_line}
+use Rattle.eager_history.specs.Project.{plain_past, aged_line}
 use Rattle.eager_history.specs.Sound.{IsEagerSound}
 use Rattle.eager_history.proofs.AgedProject.{row_past, with_lanes, entries_at}
 use Rattle.eager_history.proofs.LaneAges.{Ages, ages_sent}
@@ -44,7 +43,7 @@ module _ (trace : Trace) (past : Past) (node line : ℕ) (own outcome : Outcome)
   aged-past dropped did out served =
       (λ i. past_after sizes past (record { node = node; off = off; did = record did { out = out i; served = served i } }))
       ∙ (λ i. record {
-        state = (own-past trace (without_ages past) node line own outcome off lane is dropped i).state;
+        state = (own-past trace (plain_past past) node line own outcome off lane is dropped i).state;
         ages = record {
           node = put_at past.ages.node node (put_ages line did.ages (past.ages.node node));
           lane = λ a b class. drop (off a b class) (past.ages.lane a b class) ++ cond (a == node) (ages_sent did.given (to_lane b class (messages line (ap (λ o. o.sends) is.1 i)))) [];
@@ -95,8 +94,8 @@ module _ (trace : Trace) (positive : 0 < trace.sizes.words) (past : Past) (sound
     pub own-sound : (words : Words) →
         by.copy ≡ mine.copy → ((node == home) ≡ true → by.memory ≡ mine.memory) →
         ((a b : ℕ) (class : Class) → drop (off a b class) (past.state.lane a b class) ≡ lane a b class) →
-        IsServedIn trace (without_ages past) node line words outcome.served →
-        IsDoneRight (answered_of trace.sizes (without_ages past) line node ≡ true) outcome.served outcome.done outcome.share.want →
+        IsServedIn trace (plain_past past) node line words outcome.served →
+        IsDoneRight (answered_of trace.sizes (plain_past past) line node ≡ true) outcome.served outcome.done outcome.share.want →
         IsNextWant trace node (past.state.share node).place line outcome.share.want →
         IsRoomFor trace.sizes (past.state.share node) line outcome.share →
         ((past.state.share node).want ≡ None) ⊎ (want_on trace.sizes (past.state.share node).want line ≡ None → outcome.share.want ≡ None) →

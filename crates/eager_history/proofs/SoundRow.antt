@@ -1,21 +1,21 @@
 -- A row that keeps what holds of its line keeps what holds of the eager machine: at its own line the machine after it is that line after it, every other line stays as it was, and what is served has its place in the line's history and in its node's program.
-use Rattle.std.proofs.Common.{◌≡◌, ◌≢◌, ℕ, ◌+◌, ◌≤◌, ◌<◌, append-nil, length, length-append, Bool, true, false, cond, ◌==◌, ◌⊎◌, List, [], ◌∷◌, ◌++◌, map, refl, arith, ap, sym, ◌∙◌, subst, Option, Some, None}
+use Rattle.std.proofs.Common.{◌≡◌, ◌≢◌, ℕ, ◌+◌, ◌≤◌, ◌<◌, append-nil, length, length-append, Bool, true, false, cond, ◌==◌, ◌⊎◌, List, [], ◌∷◌, ◌++◌, refl, arith, ap, sym, ◌∙◌, subst, Option, Some, None}
 use Rattle.std.proofs.lemmas.List.{map-append, length-map}
 use Rattle.std.proofs.lemmas.Bool.Decides.{nat_tests}
-use Rattle.line_map.specs.Sizes.{Sizes, home_of, line_of}
+use Rattle.line_map.specs.Sizes.{Sizes, home_of}
 use Rattle.op_model.specs.Events.Node.{messages}
 use Rattle.op_model.specs.Events.Step.{to_lane}
 use Rattle.op_model.specs.Flat.{IsLegal}
 use Rattle.op_model.specs.Lines.{Outcome, Service, NoService, Own, For}
 use Rattle.op_model.specs.Messages.{msg_content}
-use Rattle.op_model.specs.Operations.{Words, entry_of, is_load}
+use Rattle.op_model.specs.Operations.{Words, is_load}
 use Rattle.op_model.specs.Run.History.{entries_by}
 use Rattle.op_model.specs.Run.Runs.{entries_of, entry_for}
 use Rattle.op_model.specs.Shares.{Lanes, Trace, put_share, want_on}
 use Rattle.op_model.proofs.Plain.{eqb-self}
 use Rattle.line_invariant.specs.Line.{share_of, answered_after}
 use Rattle.line_invariant.specs.Rows.{IsDoneRight, IsLoadWanted}
-use Rattle.eager_model.specs.Types.{Class, Entry, Op, Want}
+use Rattle.eager_model.specs.Types.{Class, Entry, Want}
 use Rattle.eager_model.specs.Ages.{LineAges, age_given, served_age, sent_age}
 use Rattle.eager_model.specs.History.{in_age_order}
 use Rattle.eager_model.specs.Line.{AgedLine, ages_of, aged_row}
@@ -30,7 +30,7 @@ use Rattle.one_history.proofs.Order.{IsNextWant, begun-next, next-on}
 use Rattle.one_history.proofs.Sets.{IsRoomFor, cached-row}
 use Rattle.one_history.proofs.Shares.{IsOn}
 use Rattle.one_history.proofs.Sound.{IsServedIn}
-use Rattle.eager_history.specs.Project.{plain, without_ages, served_on, history_on, last_age, aged_line}
+use Rattle.eager_history.specs.Project.{plain, plain_past, served_on, last_age, aged_line}
 use Rattle.eager_history.specs.Sound.{Each, IsPastOf, IsLineSound, IsEagerSound}
 use Rattle.eager_history.proofs.Added.{IsAdded, none-added, load-added, for-added, write-added}
 use Rattle.eager_history.proofs.AgedProject.{row_past, with_lanes, entries_at, project-aged, project-aged-other}
@@ -78,7 +78,7 @@ module _ (trace : Trace) (positive : 0 < trace.sizes.words) (past : Past) (sound
   rises = above top _
 
   -- what is served has its place in the line's history
-  adds : (words : Words) (service : Service) → IsServedIn trace (without_ages past) node line words service → IsServedAt (aged_line sizes past top line) after.top node age service →
+  adds : (words : Words) (service : Service) → IsServedIn trace (plain_past past) node line words service → IsServedAt (aged_line sizes past top line) after.top node age service →
       IsAdded trace past.served line after.top node age service (past.served ++ entries_at age (entries_of sizes past.state node line service))
   unfolding aged_line project
   adds words NoService well at = subst (IsAdded trace past.served line after.top node age NoService) (sym (append-nil past.served)) (none-added trace past.served line top after.top rises (sound.lines line).history node age)
@@ -105,8 +105,8 @@ module _ (trace : Trace) (positive : 0 < trace.sizes.words) (past : Past) (sound
   plain-next = map-append (λ aged. aged.entry) past.served (entries_at age (entries_of sizes past.state node line outcome.served)) ∙ ap (λ l. plain past.served ++ l) (plain-entries age (entries_of sizes past.state node line outcome.served))
 
   pub sound-row : (words : Words) →
-      IsServedIn trace (without_ages past) node line words outcome.served →
-      IsDoneRight (answered_of sizes (without_ages past) line node ≡ true) outcome.served outcome.done outcome.share.want →
+      IsServedIn trace (plain_past past) node line words outcome.served →
+      IsDoneRight (answered_of sizes (plain_past past) line node ≡ true) outcome.served outcome.done outcome.share.want →
       IsNextWant trace node (past.state.share node).place line outcome.share.want →
       IsRoomFor sizes (past.state.share node) line outcome.share →
       ((past.state.share node).want ≡ None) ⊎ (want_on sizes (past.state.share node).want line ≡ None → outcome.share.want ≡ None) →
@@ -136,12 +136,12 @@ module _ (trace : Trace) (positive : 0 < trace.sizes.words) (past : Past) (sound
       cached n true e = cached-row sizes (node == home) line outcome.done outcome.share (past.state.share node) on (sound.cached node) room
       cached n false e = sound.cached n
 
-      idle : outcome.share.want ≡ None → outcome.done ≡ false → answered_of sizes (without_ages past) line node ≡ false
-      idle none still = not-yet trace (without_ages past) node line words outcome.served outcome.done outcome.share.want well right still (any-idle home after good node (rw (eqb-self node) none))
+      idle : outcome.share.want ≡ None → outcome.done ≡ false → answered_of sizes (plain_past past) line node ≡ false
+      idle none still = not-yet trace (plain_past past) node line words outcome.served outcome.done outcome.share.want well right still (any-idle home after good node (rw (eqb-self node) none))
 
-      fine : (n : ℕ) → IsOrdered trace n (next.state.share n) (entries_by n (without_ages next).served) × ((q : ℕ) → q ≢ line → answered_of sizes (without_ages next) q n ≡ answered_of sizes (without_ages past) q n)
-          × (answered_of sizes (without_ages next) line n ≡ answered_after node outcome.served outcome.done (answered_of sizes (without_ages past) line) n)
-      fine n = rw plain-next (all-fine trace (without_ages past) sound.ordered node line (node == home) outcome.share words outcome.served outcome.done well right begins idle n)
+      fine : (n : ℕ) → IsOrdered trace n (next.state.share n) (entries_by n (plain_past next).served) × ((q : ℕ) → q ≢ line → answered_of sizes (plain_past next) q n ≡ answered_of sizes (plain_past past) q n)
+          × (answered_of sizes (plain_past next) line n ≡ answered_after node outcome.served outcome.done (answered_of sizes (plain_past past) line) n)
+      fine n = rw plain-next (all-fine trace (plain_past past) sound.ordered node line (node == home) outcome.share words outcome.served outcome.done well right begins idle n)
 
       pairs : (a b : ℕ) (class : Class) → length (next.ages.lane a b class) ≡ length (next.state.lane a b class)
       pairs a b class =

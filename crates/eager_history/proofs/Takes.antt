@@ -1,21 +1,20 @@
 -- A message that is taken meets a row at its taker, and keeps what holds of the eager machine.
-use Rattle.std.proofs.Common.{◌≡◌, ◌≢◌, ℕ, ◌<◌, Bool, true, false, cond, ◌==◌, ◌&&◌, not, ◌⊎◌, inl, inr, List, [], ◌∷◌, drop, refl, arith, ap, sym, ◌∙◌, subst, Option, Some, None, Result, Ok, Err}
+use Rattle.std.proofs.Common.{◌≡◌, ◌≢◌, ℕ, ◌<◌, Bool, true, false, cond, ◌==◌, not, inl, inr, List, ◌∷◌, drop, refl, arith, ap, sym, ◌∙◌, subst, Option, Some, None}
 use Rattle.std.proofs.lemmas.Bool.Decides.{nat_tests}
-use Rattle.line_map.specs.Sizes.{Sizes, home_of, line_of}
-use Rattle.op_model.specs.Events.Node.{Input, NodeOutcome, TakeFrom, by_row}
+use Rattle.line_map.specs.Sizes.{Sizes, home_of}
+use Rattle.op_model.specs.Events.Node.{TakeFrom, by_row}
 use Rattle.op_model.specs.Events.Step.{one_off}
 use Rattle.op_model.specs.Lines.{For, LineShare, NoService, Outcome, Own, Room, Service, is_empty, sending, no_message, Absent}
 use Rattle.op_model.specs.Messages.{Content, FAck, FwdGet, FwdGetX, Get, GetX, Inv, InvAck, Nak, Nakc, Put, PutX, Rpl, ShWb, Wb, msg_content, msg_line}
 use Rattle.op_model.specs.Operations.{Words}
-use Rattle.op_model.specs.Shares.{Share, Trace, Unlinked, copy_of, header_of, is_set_empty, line_share, program, room_of, share_at, want_on}
-use Rattle.op_model.proofs.Plain.{err-ok}
-use Rattle.line_invariant.specs.Line.{share_of, taken}
+use Rattle.op_model.specs.Shares.{Share, Trace, Unlinked, copy_of, header_of, is_set_empty, line_share, room_of, share_at, want_on}
+use Rattle.line_invariant.specs.Line.{taken}
 use Rattle.line_invariant.specs.Rows.{IsServedFor, IsWantKept, wanting}
-use Rattle.eager_model.specs.Types.{Cause, Class, Msg, Op, Want}
+use Rattle.eager_model.specs.Types.{Class, Msg, Op, Want}
 use Rattle.eager_model.specs.Ages.{LineAges, ages_taken, with_copy}
 use Rattle.eager_model.specs.Good.{IsEagerGood}
-use Rattle.eager_model.specs.Line.{AgedLine, ages_of, ages_after_take, aged_row, row_taken, taken_age}
-use Rattle.eager_model.specs.Node.{aged, ages_by, line_ages, meets_row, take_from, taking}
+use Rattle.eager_model.specs.Line.{AgedLine, ages_of, aged_row, taken_age}
+use Rattle.eager_model.specs.Node.{aged, line_ages, meets_row, taking}
 use Rattle.eager_model.specs.Rows.{meets, on_message, row_of}
 use Rattle.eager_model.specs.Runs.{Past, past_after}
 use Rattle.eager_model.specs.Served.{age_taken, IsServedAt}
@@ -30,7 +29,7 @@ use Rattle.one_history.proofs.Rows.{kept-fits}
 use Rattle.one_history.proofs.Sets.{waits-alone}
 use Rattle.one_history.proofs.Shares.{of_line-front, taken_of}
 use Rattle.one_history.proofs.Sound.{IsServedIn}
-use Rattle.eager_history.specs.Project.{without_ages, ages_on, aged_line}
+use Rattle.eager_history.specs.Project.{plain_past, ages_on, aged_line}
 use Rattle.eager_history.specs.Sound.{IsEagerSound}
 use Rattle.eager_history.proofs.AgedProject.{with_lanes, project-aged-taken, project-aged-taken-other}
 use Rattle.eager_history.proofs.Elsewhere.{away-meets, away-message}
@@ -113,7 +112,7 @@ module _ (trace : Trace) (past : Past) (sound : IsEagerSound trace past) where
   next-of : (n line : ℕ) (op : Op) (marked : Bool) → want_on sizes (share n).want line ≡ wanting op marked → IsNextOp trace n (share n).place line op
   next-of n line op marked e = begun-next trace n (share n).place (share n).want line op marked (sound.ordered n).begun e
 
-  served-in : (dst line : ℕ) (words : Words) (service : Service) → IsServedFor (λ n. want_on sizes (share n).want line) (answered_of sizes (without_ages past) line) dst words service → IsServedIn trace (without_ages past) dst line words service
+  served-in : (dst line : ℕ) (words : Words) (service : Service) → IsServedFor (λ n. want_on sizes (share n).want line) (answered_of sizes (plain_past past) line) dst words service → IsServedIn trace (plain_past past) dst line words service
   unfolding aged_line project
   served-in dst line words NoService h = tt
   served-in dst line words (Own op on) h =

@@ -16,13 +16,15 @@ use Rattle.one_history.specs.Sound.{answered_of}
 abbrev pub plain : List AgedEntry → List Entry
 plain entries = map (λ aged. aged.entry) entries
 
-abbrev pub without_ages : Past → delayed.Past
-without_ages past = record { state = past.state; served = plain past.served }
+-- the state and what was served, as the delayed core has them
+abbrev pub plain_past : Past → delayed.Past
+plain_past past = record { state = past.state; served = plain past.served }
 
--- the served operations of a line, as they were served, and in the order of its history
+-- the served operations of a line, in the order in which they were served
 abbrev pub served_on : Sizes → ℕ → List AgedEntry → List AgedEntry
 served_on sizes line served = filter (λ aged. line_of sizes aged.entry.word == line) served
 
+-- the same in the order of their ages
 abbrev pub history_on : Sizes → ℕ → List AgedEntry → List AgedEntry
 history_on sizes line served = in_age_order (served_on sizes line served)
 
@@ -49,7 +51,7 @@ ages_on line (m ∷ messages) ages = if msg_line m == line then first_age ages �
 unfoldable pub aged_line : Sizes → Past → ℕ → ℕ → AgedLine
 aged_line sizes past top line =
     record {
-      line = project sizes past.state (line_words sizes (plain (history_on sizes line past.served)) line) (answered_of sizes (without_ages past) line) line;
+      line = project sizes past.state (line_words sizes (plain (history_on sizes line past.served)) line) (answered_of sizes (plain_past past) line) line;
       copy_age = λ node. (past.ages.node node).copy line;
       memory_age = (past.ages.node (home_of sizes line)).memory line;
       lane_age = λ a b class. ages_on line (past.state.lane a b class) (past.ages.lane a b class);

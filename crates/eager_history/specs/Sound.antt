@@ -8,8 +8,9 @@ use Rattle.eager_model.specs.Types.{Class}
 use Rattle.eager_model.specs.Runs.{AgedEntry, Past}
 use Rattle.eager_model.specs.Good.{IsEagerGood}
 use Rattle.one_history.specs.Sound.{IsOrdered, IsCached}
-use Rattle.eager_history.specs.Project.{plain, without_ages, served_on, history_on, last_age, aged_line}
+use Rattle.eager_history.specs.Project.{plain, plain_past, served_on, history_on, last_age, aged_line}
 
+-- it holds of each entry
 abbrev pub Each : (AgedEntry → Type 0) → List AgedEntry → Type 0
 Each P [] = Unit {0}
 Each P (aged ∷ entries) = P aged × Each P entries
@@ -35,6 +36,6 @@ pub record IsLineSound (trace : Trace) (past : Past) (line : ℕ) : Type 0 where
 -- The caches hold no two lines of one set; what was served is in the order of each program; each message has its age; and what holds of one line holds of each, with its history
 pub record IsEagerSound (trace : Trace) (past : Past) : Type 0 where
   pub cached : (node : ℕ) → IsCached trace.sizes (past.state.share node)
-  pub ordered : (node : ℕ) → IsOrdered trace node (past.state.share node) (entries_by node (without_ages past).served)
+  pub ordered : (node : ℕ) → IsOrdered trace node (past.state.share node) (entries_by node (plain_past past).served)
   pub paired : (a b : ℕ) (class : Class) → length (past.ages.lane a b class) ≡ length (past.state.lane a b class)
   pub lines : (line : ℕ) → IsLineSound trace past line
