@@ -4,7 +4,7 @@ use Rattle.std.proofs.lemmas.Bool.Decides.{nat_tests}
 use Rattle.line_map.specs.Sizes.{home_of}
 use Rattle.op_model.specs.declared.state.Wait.TheVariants.{Idle}
 use Rattle.op_model.specs.Nodes.{Nodes, listed, unlist, only}
-use Rattle.op_model.specs.Lines.{Copy, Header, LineShare, Outcome, sending, no_message}
+use Rattle.op_model.specs.Lines.{Header, sending, no_message}
 use Rattle.op_model.specs.Shares.{Copies}
 use Rattle.op_model.specs.Tables.Remote.{is_invalidate}
 use Rattle.eager_model.specs.Rows.{on_inv_ack, drained_list}

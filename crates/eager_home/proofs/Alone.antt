@@ -1,12 +1,10 @@
 -- What a node does by itself: but for an issue, as in the delayed core where lists cost no links.
-use Rattle.std.proofs.Common.{◌≡◌, ℕ, Bool, List, [], Result, Err, refl, subst}
-use Rattle.std.specs.Prelude.{MatchResult}
+use Rattle.std.proofs.Common.{◌≡◌, ℕ, Bool, List, Err, refl}
 use Rattle.line_map.specs.Sizes.{Sizes}
-use Rattle.op_model.specs.declared.events.Cause.{Cause}
 use Rattle.op_model.specs.declared.events.Cause.TheVariants.{NoLinks}
 use Rattle.op_model.specs.declared.events.EvictKind.{EvictKind}
 use Rattle.op_model.specs.declared.operations.Op.{Op}
-use Rattle.op_model.specs.Shares.{Share, Unlinked, line_share}
+use Rattle.op_model.specs.Shares.{Share, Unlinked}
 use Rattle.op_model.specs.Events.Node.{EvictLine, HitNext, NodeOutcome, ReclaimLine, evict_line, permit}
 use Rattle.op_model.specs.Events.Node as delayed
 use Rattle.op_model.specs.Tables.Processor.{reclaim}

@@ -1,12 +1,12 @@
 -- An act changes the copy of its line alone.
-use Rattle.std.proofs.Common.{◌≡◌, ◌≢◌, ℕ, ◌<◌, List, slice_get, refl, sym, ap, ◌∙◌, Option, Some, Ok}
-use Rattle.line_map.specs.Sizes.{Sizes, home_of, line_of}
+use Rattle.std.proofs.Common.{◌≡◌, ◌≢◌, ℕ, List, refl, sym, ap, None, Ok}
+use Rattle.line_map.specs.Sizes.{Sizes, line_of}
 use Rattle.op_model.specs.declared.operations.Op.{Op}
 use Rattle.op_model.specs.Lines.{Outcome}
 use Rattle.op_model.specs.Messages.{msg_line}
 use Rattle.op_model.specs.Shares.{Share, copy_in, line_share, put_share}
 use Rattle.op_model.specs.Tables.Processor.{hit}
-use Rattle.op_model.specs.Events.Node.{Input, NodeOutcome, by_row}
+use Rattle.op_model.specs.Events.Node.{EvictLine, HitNext, Input, IssueNext, NodeOutcome, TakeFrom, by_row}
 use Rattle.node_share.proofs.Copies.{copy-put_other}
 use Rattle.eager_model.specs.Node.{local, taking}
 use Rattle.eager_part.proofs.EachAct.{each-act}
@@ -27,8 +27,8 @@ module _ (sizes : Sizes) (node : ℕ) (program : List Op) (share : Share) where
   each-line input out e =
       each-act sizes node program share (IsAtLine sizes program share)
       (record {
-        hits = λ op next _ _. of-row Rattle.op_model.specs.Events.Node.HitNext (line_of sizes op.word) (hit op (line_share sizes share (line_of sizes op.word))) (sym (ap (line_next sizes) next));
-        begins = λ op next _ _ o _. of-row Rattle.op_model.specs.Events.Node.IssueNext (line_of sizes op.word) o (sym (ap (line_next sizes) next));
-        evicts = λ line kind gate o _. of-row (Rattle.op_model.specs.Events.Node.EvictLine line kind gate) line o refl;
-        takes = λ src m. of-row (Rattle.op_model.specs.Events.Node.TakeFrom src m Rattle.std.proofs.Common.None) (msg_line m) (taking sizes node share src m) refl;
+        hits = λ op next _ _. of-row HitNext (line_of sizes op.word) (hit op (line_share sizes share (line_of sizes op.word))) (sym (ap (line_next sizes) next));
+        begins = λ op next _ _ o _. of-row IssueNext (line_of sizes op.word) o (sym (ap (line_next sizes) next));
+        evicts = λ line kind gate o _. of-row (EvictLine line kind gate) line o refl;
+        takes = λ src m. of-row (TakeFrom src m None) (msg_line m) (taking sizes node share src m) refl;
       }) input out e

@@ -9,3 +9,6 @@ pub mod AtLine
 pub mod WithAges
 pub mod EventAges
 pub mod Takes
+pub mod Within
+pub mod KeptAges
+pub mod Started

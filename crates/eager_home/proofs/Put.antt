@@ -1,5 +1,5 @@
 -- The ages of one line are put into those of its node.
-use Rattle.std.proofs.Common.{◌≡◌, ◌≢◌, ℕ, ◌+◌, ◌*◌, ◌/◌, ◌%◌, ◌<◌, Bool, true, false, cond, ◌==◌, List, length, get_or, set, refl, sym, ap, ◌∙◌, arith, subst}
+use Rattle.std.proofs.Common.{◌≡◌, ◌≢◌, ℕ, ◌+◌, ◌*◌, ◌/◌, ◌%◌, ◌<◌, Bool, true, false, cond, ◌==◌, List, length, refl, sym, ap, ◌∙◌, arith, subst}
 use Rattle.std.specs.Prelude.{slice_index, slice_set}
 use Rattle.std.proofs.lemmas.Bool.{eqb-true}
 use Rattle.std.proofs.lemmas.Bool.Decides.{nat_tests}
@@ -10,7 +10,7 @@ use Rattle.op_model.specs.Lines.{is_empty}
 use Rattle.op_model.specs.Shares.{Copies, copy_in}
 use Rattle.op_model.specs.Events.Step.{put_at}
 use Rattle.eager_model.specs.Ages.{LineAges, with_copy}
-use Rattle.eager_model.specs.Node.{NodeAges, line_ages, put_ages}
+use Rattle.eager_model.specs.Node.{NodeAges, put_ages}
 use Rattle.eager_home.specs.Ages.{AgeLists, AreAgeLists, ages_of, with_line}
 
 -- two lines of one home at one place are one

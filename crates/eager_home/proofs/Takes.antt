@@ -1,12 +1,11 @@
 -- A message's act: the row that it meets, with the ages of its line.
-use Rattle.std.proofs.Common.{◌≡◌, ◌≢◌, ℕ, Bool, true, false, cond, ◌==◌, List, is_some, refl, sym, ap, ◌∙◌, Option, Some, None, Ok, Err}
+use Rattle.std.proofs.Common.{◌≡◌, ℕ, true, false, cond, ◌==◌, List, is_some, refl, sym, ap, ◌∙◌, Option, Some, None, Ok, Err}
 use Rattle.std.proofs.lemmas.Bool.{cond-true, eq-eqb}
 use Rattle.line_map.specs.Sizes.{Sizes, home_of}
 use Rattle.op_model.specs.declared.events.Cause.TheVariants.{VictimUnasked}
 use Rattle.op_model.specs.declared.messages.Msg.{Msg}
 use Rattle.op_model.specs.declared.messages.Msg.TheVariants as msg
 use Rattle.op_model.specs.declared.operations.Op.{Op}
-use Rattle.op_model.specs.Lines.{LineShare}
 use Rattle.op_model.specs.Messages.{msg_content, msg_line}
 use Rattle.op_model.specs.MessageWords.{words_behind}
 use Rattle.op_model.specs.Shares.{Charge, Share, Unlinked, is_set_empty, line_share, room_of}
@@ -47,7 +46,7 @@ module _ (sizes : Sizes) (node : ℕ) (program : List Op) (share : Share) (src :
     takes charge (Some g) new out out' effect unlinked asked does told = cc
     takes charge None new out out' effect unlinked asked does told =
         let row : row_at sizes node share (msg_line m) (row_met sizes node src (room_of charge sizes share) m) ≡ by_row sizes node share (msg_line m) (taking sizes node share src m) =
-            ap (λ k. row_at sizes node share (msg_line m) (row_met sizes node src (room_of k sizes share) m)) unlinked ∙ sym is-row in
+        ap (λ k. row_at sizes node share (msg_line m) (row_met sizes node src (room_of k sizes share) m)) unlinked ∙ sym is-row in
         record {
           outcome = by_row sizes node share (msg_line m) (taking sizes node share src m);
           is = refl;

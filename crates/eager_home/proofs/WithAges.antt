@@ -1,5 +1,5 @@
 -- An act with the ages of its line, call by call.
-use Rattle.std.proofs.Common.{◌≡◌, ◌≢◌, ℕ, Bool, false, cond, ◌==◌, List, sym, ap, ◌∙◌, Ok}
+use Rattle.std.proofs.Common.{◌≡◌, ◌≢◌, ℕ, false, cond, ◌==◌, List, sym, ap, ◌∙◌}
 use Rattle.std.specs.Prelude.{◌%◌, slice_index}
 use Rattle.line_map.specs.Sizes.{AreSizes, Sizes, home_of, set_of}
 use Rattle.op_model.specs.declared.operations.Op.{Op}
@@ -53,9 +53,9 @@ module _ (sizes : Sizes) (node : ℕ) (program : List Op) (brought : Words) (old
     with-ages pair now lists' given copy served pair-is now-is given-is copy-is lists-is served-is away =
         let now-there : now ≡ ages_by sizes node old input age acts.outcome (line_ages before acts.outcome.line) = now-is ∙ ap (ages_by sizes node old input age acts.outcome) (pair-is ∙ ap (line_ages before) (sym same)) in
         let row : with_copy (copy_in new.copies line) now ≡ with_copy (copy_in acts.outcome.share.copies acts.outcome.line) (ages_by sizes node old input age acts.outcome (line_ages before acts.outcome.line)) =
-            (λ i. with_copy (sym copy-there i) (now-there i)) in
+        (λ i. with_copy (sym copy-there i) (now-there i)) in
         let given-there : given ≡ age_given (node == home_of sizes acts.outcome.line) (line_share sizes old acts.outcome.line) (line_ages before acts.outcome.line) =
-            given-is ∙ ap (age_given (node == home_of sizes line) (line_share sizes old line)) pair-is ∙ ap (λ l. age_given (node == home_of sizes l) (line_share sizes old l) (line_ages before l)) (sym same) in
+        given-is ∙ ap (age_given (node == home_of sizes line) (line_share sizes old line)) pair-is ∙ ap (λ l. age_given (node == home_of sizes l) (line_share sizes old l) (line_ages before l)) (sym same) in
         let copied : copy ≡ (with_copy (copy_in acts.outcome.share.copies acts.outcome.line) (ages_by sizes node old input age acts.outcome (line_ages before acts.outcome.line))).copy = copy-is ∙ ap (λ (r : LineAges). r.copy) row in
         record {
           acts = acts;

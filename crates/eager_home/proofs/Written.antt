@@ -1,5 +1,5 @@
 -- An issue, by the tables of both cores; and a write that drains its line, call by call.
-use Rattle.std.proofs.Common.{◌≡◌, ℕ, suc, Bool, true, false, cond, not, ◌&&◌, ◌==◌, List, [], slice_get, Option, Some, None, Result, Ok, Err, refl, sym, ap, ◌∙◌, arith}
+use Rattle.std.proofs.Common.{◌≡◌, ℕ, Bool, true, false, cond, not, ◌&&◌, ◌==◌, List, slice_get, Option, Some, None, Result, Ok, Err, refl, sym, ap, ◌∙◌, arith}
 use Rattle.std.proofs.lemmas.Bool.{cond-true, cond-false, eq-eqb}
 use Rattle.line_map.specs.Sizes.{Sizes, home_of, line_of}
 use Rattle.op_model.specs.declared.events.Cause.{Cause}
@@ -13,13 +13,10 @@ use Rattle.op_model.specs.Tables.Processor as delayed_rows
 use Rattle.op_model.specs.Events.Node.{IssueNext, NodeOutcome, by_row, map_ok, permit, with_next}
 use Rattle.op_model.specs.Events.Node as delayed
 use Rattle.op_model.proofs.Shares.{free-want}
+use Rattle.pi_handlers.proofs.Acting.{permit-map}
 use Rattle.pi_handlers.proofs.Rows.{allowed-idle, allowed-room, begin-called, write-waits}
 use Rattle.eager_model.specs.Node.{issue_next, local}
 use Rattle.eager_model.specs.Rows.{begin_op, write_and_drain, writes_shared}
-
-permit-map : {A B : Type 0} (f : A → B) (r : Result A Cause) → permit (map_ok f r) ≡ permit r
-permit-map f (Ok done) = refl
-permit-map f (Err cause) = refl
 
 map-same : {A : Type 0} (r : Result A Cause) → map_ok (λ (a : A). a) r ≡ r
 map-same (Ok a) = refl
@@ -115,7 +112,7 @@ module _ (sizes : Sizes) (node : ℕ) (program : List Op) (share : Share) where
         let at : (node == home_of sizes line) ≡ true = eq-eqb node (home_of sizes line) (sym own) in
         let home : begun ≡ delayed_rows.begin_at_home (home_of sizes line) room op here = cond-false (serves op here.copy) _ _ tests.1 ∙ cond-true (node == home_of sizes line) _ _ at in
         let may : Ok tt ≡ permit (delayed_rows.begin_at_home (home_of sizes line) room op here) =
-            allowed ∙ ap permit (on ∙ tests.3) ∙ permit-map (by_row sizes node share line) (map_ok row begun) ∙ permit-map row begun ∙ ap permit home in
+        allowed ∙ ap permit (on ∙ tests.3) ∙ permit-map (by_row sizes node share line) (map_ok row begun) ∙ permit-map row begun ∙ ap permit home in
         let parts = shared-parts here.header.dirty (is_load op.kind) (nobody_listed here.header.list) shared in
         let idle = allowed-idle (home_of sizes line) room op here may in
         let left = allowed-room (home_of sizes line) room op here may (write-waits op here.header parts.0 parts.1 ∙ ap not parts.2) in

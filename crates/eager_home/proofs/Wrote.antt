@@ -1,13 +1,12 @@
 -- A write that drains its line, call by call.
-use Rattle.std.proofs.Common.{◌≡◌, ℕ, suc, Bool, true, false, cond, List, [], slice_get, Option, Some, None, Result, Ok, refl, sym, ap, ◌∙◌, subst}
+use Rattle.std.proofs.Common.{◌≡◌, ℕ, suc, true, [], slice_get, Some, None, Ok, refl, sym, ap, ◌∙◌, subst}
 use Rattle.line_map.specs.Sizes.{home_of, line_of}
 use Rattle.op_model.specs.declared.operations.Op.{Op}
-use Rattle.op_model.specs.declared.state.Want.{Want}
 use Rattle.op_model.specs.Nodes.{count}
 use Rattle.op_model.specs.Operations.{Words, after_op, entry_of}
-use Rattle.op_model.specs.Lines.{Exclusive, Header, LineShare, Own, Outcome, to_listed}
+use Rattle.op_model.specs.Lines.{Exclusive, Header, LineShare, Outcome, to_listed}
 use Rattle.op_model.specs.Shares.{Share, copy_in, copy_of, header_in, line_share, put_copy, want_after, want_on}
-use Rattle.op_model.specs.Events.Node.{IssueNext, NodeOutcome, by_row, messages}
+use Rattle.op_model.specs.Events.Node.{IssueNext, by_row, messages}
 use Rattle.op_model.specs.Programs.{IsProgramOf}
 use Rattle.eager_model.specs.Node.{local}
 use Rattle.eager_model.specs.Rows.{Drain, write_and_drain}
@@ -51,10 +50,10 @@ module _ {D : Type 0} (home : HomeView D) (node : ℕ) (op : Op) (proc : ProcVie
         let copied : copy_done op words ≡ Exclusive (after_op op h.memory) = done-write op words is.write ∙ ap (λ w. Exclusive (after_op op w)) are in
         let wanted : proc'.want ≡ want_after home.sizes proc.want line o.share.want = ap (λ p. p.want) proc-is ∙ sym (ap (λ w. want_after home.sizes w line (want_on home.sizes w line)) is.free) in
         let row : DoesRow home.sizes node share (share_of proc' cache'.copies h3.headers) out out' line (write_and_drain node op) =
-            subst (λ k. DoesRow home.sizes k share (share_of proc' cache'.copies h3.headers) out out' line (write_and_drain node op)) number
-            (own-row home h3 proc proc' cache.copies cache'.copies line out out' (write_and_drain node op) o (own ∙ sym number) refl puts
-            (ap (λ c. c.copies) cached ∙ ap (put_copy cache.copies line) copied) (ap (λ p. p.place) proc-is) wanted
-            (called ∙ ap (λ k. sent out (messages line (to_listed k.list))) (puts-read puts))) in
+        subst (λ k. DoesRow home.sizes k share (share_of proc' cache'.copies h3.headers) out out' line (write_and_drain node op)) number
+        (own-row home h3 proc proc' cache.copies cache'.copies line out out' (write_and_drain node op) o (own ∙ sym number) refl puts
+        (ap (λ c. c.copies) cached ∙ ap (put_copy cache.copies line) copied) (ap (λ p. p.place) proc-is) wanted
+        (called ∙ ap (λ k. sent out (messages line (to_listed k.list))) (puts-read puts))) in
         record {
           outcome = by_row home.sizes node share line (write_and_drain node op (line_share home.sizes share line));
           is = is.is ∙ ap (λ k. Ok (by_row home.sizes node share line (write_and_drain k op (line_share home.sizes share line)))) own;

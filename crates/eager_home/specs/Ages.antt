@@ -3,9 +3,7 @@ use Rattle.std.specs.Prelude.{◌≡◌, ℕ, ◌%◌, ◌==◌, if◌then◌els
 use Rattle.line_map.specs.Sizes.{Sizes, home_of, line_of, set_of}
 use Rattle.op_model.specs.declared.operations.Op.{Op}
 use Rattle.op_model.specs.Lines.{is_empty}
-use Rattle.op_model.specs.Messages.{msg_line}
 use Rattle.op_model.specs.Shares.{Copies, copy_in}
-use Rattle.op_model.specs.Events.Node.{Input, HitNext, IssueNext, EvictLine, TakeFrom, ReclaimLine}
 use Rattle.eager_model.specs.Ages.{LineAges}
 use Rattle.eager_model.specs.Node.{NodeAges}
 use Rattle.eager_home.specs.declared.ages.AgePair.{AgePair}

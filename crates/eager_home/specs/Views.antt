@@ -1,5 +1,5 @@
 -- One node of the eager core as its callers see it.
-use Rattle.std.specs.Prelude.{◌≡◌, ℕ, ◌≤◌, List, refl}
+use Rattle.std.specs.Prelude.{ℕ, ◌≤◌, List, refl}
 use Rattle.std.specs.Coded.{Coded, code_by, coded×, coded_ℕ, coded_list}
 use Rattle.line_map.specs.Sizes.{Sizes}
 use Rattle.line_map.specs.Codes.{sizes_code}

@@ -8,7 +8,7 @@ ghost use Rattle.op_model.specs.Messages.{msg_line, msg_content};
 ghost use Rattle.op_model.specs.Shares.{copy_in};
 ghost use Rattle.cpu_cache.specs.Effects.{served_of};
 ghost use Rattle.dir_header.specs.HomeSides.{header_at};
-ghost use Rattle.eager_model.specs.Ages.{age_given as given_in, served_age as served_in, with_copy, ages_begun, ages_left, ages_taken};
+ghost use Rattle.eager_model.specs.Ages.{age_given as given_in, sent_age, served_age as served_in, with_copy, ages_begun, ages_left, ages_taken};
 ghost use Rattle.eager_model.specs.Node.{line_ages as line_of_ages};
 ghost use Rattle.eager_home.specs.Ages.{ages_of, as_ages, with_line, AreAgeLists};
 
@@ -71,12 +71,7 @@ pub(crate) fn served_age(given: u64, copy: u64, served: &Served) -> u64
 }
 
 /// The ages of a line after a message of this age is taken, where a Get is taken at the line's home.
-pub(crate) fn taken<D: Sharers>(
-    home: &HomeSide<D>,
-    msg: &Msg,
-    age: u64,
-    ages: AgePair,
-) -> AgePair
+pub(crate) fn taken<D: Sharers>(home: &HomeSide<D>, msg: &Msg, age: u64, ages: AgePair) -> AgePair
     requires below { msg_line msg.now < all_lines home.now.sizes }
     requires here { (line : ℕ) → msg.now ≡ msg_of.Get line → home_of home.now.sizes line ≡ home.now.node }
     ensures { (share : LineShare) → share.header ≡ header_at home.now (msg_line msg.now) → as_ages result ≡ ages_taken (home.now.node == home_of home.now.sizes (msg_line msg.now)) age (msg_content msg.now) share (as_ages ages) }
@@ -189,4 +184,18 @@ pub struct AgedEffect {
     pub effect: Effect,
     pub given: u64,
     pub served: u64,
+}
+
+impl AgedEffect {
+    /// The age of a message that the act sent. A PutX begins the next age.
+    pub fn age_of(&self, msg: &Msg) -> u64
+        requires { self.now.given < 18446744073709551615 }
+        ensures { result ≡ sent_age self.now.given (msg_content msg.now) }
+    {
+        match msg {
+            Msg::PutX { .. } => self.given + 1,
+            Msg::Put { .. } | Msg::ShWb { .. } | Msg::Wb { .. } => self.given,
+            _ => 0,
+        }
+    }
 }

@@ -1,4 +1,4 @@
-//! The handlers of the eager core that the delayed one doesn't have: a writer has its words at once, and the line drains.
+//! One node of the eager core: a writer has its words at once, and the line drains. Beside the handlers that the delayed core doesn't have, all handlers of a node as one step, with the ages of its words.
 #![tactic(auto)]
 
 mod acks;

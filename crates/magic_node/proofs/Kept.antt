@@ -22,13 +22,13 @@ use Rattle.magic_node.specs.declared.acts.LocalEvent.TheVariants.{Hit, Issue, Ev
 use Rattle.magic_node.specs.Nodes.{HasSent, IsMagicNode, node_share, input_of}
 
 -- an event of a node by itself is of the machine, and asks it for nothing
-input-of : (sizes : Sizes) (event : LocalEvent) (gate : Bool) → IsInputOf sizes (input_of event gate)
+pub input-of : (sizes : Sizes) (event : LocalEvent) (gate : Bool) → IsInputOf sizes (input_of event gate)
 input-of sizes Hit gate = tt
 input-of sizes Issue gate = tt
 input-of sizes (Evict line kind) gate = tt
 input-of sizes (Reclaim line) gate = tt
 
-for-other : (node : ℕ) (event : LocalEvent) (gate : Bool) → IsInputForOther node (input_of event gate)
+pub for-other : (node : ℕ) (event : LocalEvent) (gate : Bool) → IsInputForOther node (input_of event gate)
 for-other node Hit gate = tt
 for-other node Issue gate = tt
 for-other node (Evict line kind) gate = tt

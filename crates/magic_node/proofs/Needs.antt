@@ -56,7 +56,6 @@ getx-forward home (Invalidate g) e = cc
 getx-forward home (ForwardGet r) e = cc
 getx-forward home (ForwardGetX r) e = refl
 
-
 module _ {D : Type 0} (number : ℕ) (proc : ProcView) (cache : CacheView) (home : HomeView D) (is : IsMagicNode number proc cache home) (src line : ℕ) where
   abbrev share : Share
   share = node_share proc cache home

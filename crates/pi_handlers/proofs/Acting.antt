@@ -33,7 +33,7 @@ pub free-is : (want : Option Want) → is_some want ≡ false → want ≡ None
 free-is None e = refl
 free-is (Some w) e = cc
 
-permit-map : {A B : Type 0} (f : A → B) (r : Result A Cause) → permit (map_ok f r) ≡ permit r
+pub permit-map : {A B : Type 0} (f : A → B) (r : Result A Cause) → permit (map_ok f r) ≡ permit r
 permit-map f (Ok done) = refl
 permit-map f (Err cause) = refl
 

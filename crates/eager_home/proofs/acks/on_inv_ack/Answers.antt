@@ -1,5 +1,5 @@
 -- The sender is listed no more; the last acknowledgement ends the wait.
-use Rattle.std.proofs.Common.{◌≡◌, ◌<◌, ◌≤◌, refl, sym, ap, ◌∙◌, subst}
+use Rattle.std.proofs.Common.{◌≡◌, ◌<◌, ◌≤◌, sym, ap, ◌∙◌, subst}
 use Rattle.op_model.specs.Nodes.{unlist, only}
 use Rattle.eager_model.specs.Rows.{drained_list}
 use Rattle.op_model.specs.Lines.{is_pending}

@@ -1,5 +1,5 @@
 -- Each event's test is its handler's.
-use Rattle.std.proofs.Common.{◌≡◌, sym, ap, ◌∙◌, subst}
+use Rattle.std.proofs.Common.{sym, ap, ◌∙◌, subst}
 use Rattle.op_model.specs.Shares.{Unlinked}
 use Rattle.op_model.specs.Events.Node.{HitNext, evict_line, permit}
 use Rattle.op_model.specs.Events.Node as delayed

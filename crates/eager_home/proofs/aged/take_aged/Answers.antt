@@ -1,19 +1,16 @@
 -- The row of a message with the ages of its line.
 use Rattle.std.proofs.Common.{◌≡◌, ◌==◌, refl, sym, ap, ◌∙◌, subst, true}
 use Rattle.line_map.specs.Sizes.{home_of}
-use Rattle.op_model.specs.declared.messages.Msg.TheVariants as msg
-use Rattle.op_model.specs.Lines.{LineShare}
 use Rattle.op_model.specs.Messages.{msg_content, msg_line}
 use Rattle.op_model.specs.MessageWords.{words_behind}
 use Rattle.op_model.specs.Shares.{copy_of, header_in, line_share}
-use Rattle.op_model.specs.Events.Node.{TakeFrom, permit}
+use Rattle.op_model.specs.Events.Node.{TakeFrom}
 use Rattle.node_share.specs.Effects.{Acts}
 use Rattle.eager_model.specs.Ages.{LineAges, age_given, ages_taken}
 use Rattle.eager_model.specs.Node.{line_ages, local, meets_row}
 use Rattle.eager_part.proofs.Needs.{get-met}
 use Rattle.magic_node.specs.Nodes.{node_share}
 use Rattle.eager_home.specs.Ages.{ages_of, as_ages, with_line}
-use Rattle.eager_home.specs.Aged.{AgedActs}
 use Rattle.eager_home.proofs.Takes.{ages-taken, memory-away, takes}
 use Rattle.eager_home.proofs.WithAges.{with-ages}
 use Rattle.eager_home.proofs.aged.take_aged.Goals as goal

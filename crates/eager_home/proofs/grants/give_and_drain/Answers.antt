@@ -1,5 +1,5 @@
 -- Memory's words go to the sender, and the line drains.
-use Rattle.std.proofs.Common.{◌≡◌, true, false, ap}
+use Rattle.std.proofs.Common.{◌≡◌, false, ap}
 use Rattle.std.specs.Prelude.{not}
 use Rattle.std.proofs.lemmas.Bool.{both_ways}
 use Rattle.dir_header.specs.HomeSides.{header_at, room_in}

@@ -5,7 +5,7 @@ use Rattle.op_model.specs.declared.messages.Msg.TheVariants as msg
 use Rattle.op_model.specs.Messages.{msg_line, msg_content}
 use Rattle.op_model.specs.MessageWords.{IsMsgOf, words_behind}
 use Rattle.op_model.specs.OwnPart.{IsOutstanding}
-use Rattle.op_model.specs.Shares.{header_in, line_share}
+use Rattle.op_model.specs.Shares.{line_share}
 use Rattle.op_model.specs.Events.Node.{messages}
 use Rattle.op_model.specs.Tables.Remote.{row_of as delayed_row_of, on_fwd_get as fwd_get_row, on_fwd_getx as fwd_getx_row, on_inv as inv_row, on_nak as nak_row}
 use Rattle.eager_model.specs.Node.{meets_row}

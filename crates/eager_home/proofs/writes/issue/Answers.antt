@@ -1,7 +1,7 @@
 -- What isn't such a write is begun as in the delayed core.
-use Rattle.std.proofs.Common.{◌≡◌, [], Err, Ok, sym, ap, ◌∙◌, subst}
+use Rattle.std.proofs.Common.{◌≡◌, [], Err, sym, ap, ◌∙◌, subst}
 use Rattle.std.specs.Prelude.{IfOk, IfErr}
-use Rattle.op_model.specs.Shares.{Unlinked, header_in}
+use Rattle.op_model.specs.Shares.{header_in}
 use Rattle.op_model.specs.Events.Node.{IssueNext, NodeOutcome}
 use Rattle.op_model.specs.Events.Node as delayed
 use Rattle.eager_model.specs.Node.{local}

@@ -1,5 +1,5 @@
 -- The line drains, and the write is done on a copy from memory.
-use Rattle.std.proofs.Common.{◌≡◌, true, false, not, sym, ap, ◌∙◌, subst}
+use Rattle.std.proofs.Common.{◌≡◌, true, not, ap, ◌∙◌, subst}
 use Rattle.std.proofs.lemmas.Bool.{both_ways}
 use Rattle.line_map.specs.Sizes.{line_of}
 use Rattle.op_model.specs.Lines.{is_pending, to_listed}
@@ -11,7 +11,7 @@ use Rattle.cpu_cache.specs.Caches.{is_set_taken, with_copy}
 use Rattle.dir_header.specs.HomeSides.{header_at, made_pending, room_in, with_header}
 use Rattle.node_share.specs.Parts.{copy_done, sent, share_of}
 use Rattle.node_share.proofs.Homes.{on-ok}
-use Rattle.eager_home.proofs.Written.{IsDrainingWrite, drains}
+use Rattle.eager_home.proofs.Written.{drains}
 use Rattle.eager_home.proofs.Wrote.{wrote}
 use Rattle.eager_home.proofs.writes.write_and_drain.Goals as goal
 
