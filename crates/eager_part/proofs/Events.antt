@@ -43,7 +43,7 @@ module _ (sizes : Sizes) (programs : Programs) (state : State) where
     pub evicts : (node line : ℕ) (kind : EvictKind) (o : Outcome) → evict node (home_of sizes line) kind (at node line) ≡ Ok o → is_gated sizes state node (home_of sizes line) kind ≡ false → P (next node line o state.lane)
     pub takes : (src dst : ℕ) (class : Class) (m : Msg) (rest : List Msg) → state.lane src dst class ≡ m ∷ rest → P (next dst (msg_line m) (taking sizes dst (state.share dst) src m) (taken_of src dst class rest state.lane))
 
-  row-after : (node line : ℕ) (o : Outcome) (off : Off) (lane : Lanes) → ((a b : ℕ) (class : Class) → drop (off a b class) (state.lane a b class) ≡ lane a b class) → after state (record { node = node; out = by_row sizes node (state.share node) line o; off = off }) ≡ next node line o lane
+  pub row-after : (node line : ℕ) (o : Outcome) (off : Off) (lane : Lanes) → ((a b : ℕ) (class : Class) → drop (off a b class) (state.lane a b class) ≡ lane a b class) → after state (record { node = node; out = by_row sizes node (state.share node) line o; off = off }) ≡ next node line o lane
   row-after node line o off lane dropped = λ i. record {
     share = put_at state.share node (put_share sizes (node == home_of sizes line) line o.done o.share (state.share node));
     lane = λ a b class. dropped a b class i ++ cond (a == node) (lane-tagged line b class o.sends i) [];

@@ -79,7 +79,7 @@ module _ (trace : Trace) (all : IsOfMachine trace) (state : State) (own : AreOwn
       kept node line (hit op (at node line)) ends.0 ends.1 (header-in node line, tt)
 
   -- a copy is at a node of the machine, and of a line of it
-  copy-in : (node line : ℕ) → is_empty (copy_of (state.share node) line) ≡ false → (node < N) × (home_of sizes line < N)
+  pub copy-in : (node line : ℕ) → is_empty (copy_of (state.share node) line) ≡ false → (node < N) × (home_of sizes line < N)
   copy-in node line full = go (cases_lt node N) (cases_lt (home_of sizes line) N)
     where
       none : copy_of (state.share node) line ≡ Absent → ⊥

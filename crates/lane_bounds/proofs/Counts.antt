@@ -27,7 +27,7 @@ use Rattle.lane_bounds.proofs.Spelled.{is_answer, is_ask, is_back, is_told, many
 use Rattle.lane_bounds.proofs.Sums.{amount, over, spread, weighed, weighed-cons}
 
 -- how many messages of a lane are of a kind
-abbrev kind : (Content → Bool) → List Msg → ℕ
+abbrev pub kind : (Content → Bool) → List Msg → ℕ
 kind test messages = weighed (λ m. one_if (test m)) messages
 
 one-kind : (content : Content) → one_if (is_departure content) + one_if (is_ask content) + one_if (is_told content) + one_if (is_answer content) + one_if (is_back content) ≡ 1
@@ -47,7 +47,7 @@ one-kind FAck = refl
 one-kind Nakc = refl
 
 -- each message is of one kind
-all-kinds : (ms : List Msg) → length ms ≡ kind is_departure ms + kind is_ask ms + kind is_told ms + kind is_answer ms + kind is_back ms
+pub all-kinds : (ms : List Msg) → length ms ≡ kind is_departure ms + kind is_ask ms + kind is_told ms + kind is_answer ms + kind is_back ms
 all-kinds [] = refl
 all-kinds (m ∷ ms) =
     let ih = all-kinds ms in
@@ -63,16 +63,16 @@ abbrev one_line : ℕ → List (ℕ × Unit {0})
 one_line line = (line, tt) ∷ []
 
 -- the line that a node has begun
-begun_lines : Sizes → Option Want → List (ℕ × Unit {0})
+pub begun_lines : Sizes → Option Want → List (ℕ × Unit {0})
 begun_lines sizes None = []
 begun_lines sizes (Some want) = one_line (line_of sizes want.op.word)
 
-begun-one : (sizes : Sizes) (want : Option Want) → over (λ u. 1) (begun_lines sizes want) ≤ 1
+pub begun-one : (sizes : Sizes) (want : Option Want) → over (λ u. 1) (begun_lines sizes want) ≤ 1
 unfolding begun_lines
 begun-one sizes None = omega arith
 begun-one sizes (Some want) = omega arith
 
-begun-wanted : (sizes : Sizes) (want : Option Want) (line : ℕ) → one_if (is_outstanding (want_on sizes want line)) ≤ amount (λ u. 1) (find nat_cmp line (begun_lines sizes want))
+pub begun-wanted : (sizes : Sizes) (want : Option Want) (line : ℕ) → one_if (is_outstanding (want_on sizes want line)) ≤ amount (λ u. 1) (find nat_cmp line (begun_lines sizes want))
 unfolding begun_lines
 begun-wanted sizes None line = omega arith
 begun-wanted sizes (Some want) line = at (line_of sizes want.op.word)

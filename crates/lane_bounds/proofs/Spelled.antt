@@ -41,13 +41,13 @@ is_back _ = false
 abbrev pub many : (Content → Bool) → List Content → ℕ
 many test contents = sum_by (λ m. one_if (test m)) contents
 
-asks-few : (leaving : Leaving) (want : Option Want) (copy : Copy) (carries : Carrier) → IsCarried want copy carries → many is_ask (leaving_part leaving ++ asking_part carries) ≤ one_if (is_outstanding want)
+pub asks-few : (leaving : Leaving) (want : Option Want) (copy : Copy) (carries : Carrier) → IsCarried want copy carries → many is_ask (leaving_part leaving ++ asking_part carries) ≤ one_if (is_outstanding want)
 asks-few leaving want copy carries is = grind arith
 
-no-told : (leaving : Leaving) (carries : Carrier) → (many is_told (leaving_part leaving ++ asking_part carries) ≡ 0) × (many is_answer (leaving_part leaving ++ asking_part carries) ≡ 0) × (many is_back (leaving_part leaving ++ asking_part carries) ≡ 0)
+pub no-told : (leaving : Leaving) (carries : Carrier) → (many is_told (leaving_part leaving ++ asking_part carries) ≡ 0) × (many is_answer (leaving_part leaving ++ asking_part carries) ≡ 0) × (many is_back (leaving_part leaving ++ asking_part carries) ≡ 0)
 no-told leaving carries = (grind arith, grind arith, grind arith)
 
-told-few : (duty : Duty) (pending : Bool) → (pending ≡ false → duty ≡ NoDuty) → (many is_told (told_part duty) ≤ one_if pending) × (many is_ask (told_part duty) ≡ 0) × (many is_answer (told_part duty) ≡ 0) × (many is_back (told_part duty) ≡ 0)
+pub told-few : (duty : Duty) (pending : Bool) → (pending ≡ false → duty ≡ NoDuty) → (many is_told (told_part duty) ≤ one_if pending) × (many is_ask (told_part duty) ≡ 0) × (many is_answer (told_part duty) ≡ 0) × (many is_back (told_part duty) ≡ 0)
 told-few duty pending h = (grind arith, grind arith, grind arith, grind arith)
 
 duty-pending : (home : ℕ) (words : Words) (phase : Phase) (p : ℕ) (lists : Bool) (duty : Duty) (header : Header) (copy : Copy) → IsGoodHeader home phase words header copy → IsOnDuty (role_in home words phase p) lists duty → is_pending header ≡ false → duty ≡ NoDuty
@@ -60,7 +60,7 @@ duty-pending home words (Asked false r o f h) p lists duty header copy is on idl
 duty-pending home words (SharedOut r o) p lists duty header copy is on idle = absurd (grind arith)
 duty-pending home words (HandedOn r o h) p lists duty header copy is on idle = absurd (grind arith)
 
-replies-few : (src : ℕ) (want : Option Want) (copy : Copy) (carries : Carrier) (duty : Duty) (pending : Bool) → IsCarried want copy carries → (pending ≡ false → duty ≡ NoDuty) →
+pub replies-few : (src : ℕ) (want : Option Want) (copy : Copy) (carries : Carrier) (duty : Duty) (pending : Bool) → IsCarried want copy carries → (pending ≡ false → duty ≡ NoDuty) →
     (many is_answer (answer_part src carries ++ reply_part duty) ≤ one_if (is_outstanding want)) × (many is_back (answer_part src carries ++ reply_part duty) ≤ one_if pending)
     × (many is_ask (answer_part src carries ++ reply_part duty) ≡ 0) × (many is_told (answer_part src carries ++ reply_part duty) ≡ 0) × (many is_departure (answer_part src carries ++ reply_part duty) ≡ 0)
 replies-few src want copy carries duty pending is h = (grind (arith, nat_tests), grind (arith, nat_tests), grind (arith, nat_tests), grind (arith, nat_tests), grind (arith, nat_tests))

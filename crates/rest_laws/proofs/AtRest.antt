@@ -26,11 +26,11 @@ use Rattle.node_range.proofs.Events.{ranged-run}
 use Rattle.rest_laws.proofs.Links.{entry-own, header-found}
 use Rattle.rest_laws.proofs.Quiet.{quiet-header, quiet-want}
 
-count-none : {X : Type 0} (test : X → Bool) (es : List (ℕ × X)) → list_any (λ e. test e.1) es ≡ false → over (λ x. one_if (test x)) es ≡ 0
+pub count-none : {X : Type 0} (test : X → Bool) (es : List (ℕ × X)) → list_any (λ e. test e.1) es ≡ false → over (λ x. one_if (test x)) es ≡ 0
 count-none test [] h = refl
 count-none test (e ∷ es) h = let ih = count-none test es in let c = over-cons (λ x. one_if (test x)) e es in grind arith
 
-none-begun : (sizes : Sizes) (want : Option Want) → ((line : ℕ) → want_on sizes want line ≡ None) → want ≡ None
+pub none-begun : (sizes : Sizes) (want : Option Want) → ((line : ℕ) → want_on sizes want line ≡ None) → want ≡ None
 none-begun sizes None h = refl
 none-begun sizes (Some want) h = absurd (go (line_of sizes want.op.word == line_of sizes want.op.word) (eqb-self (line_of sizes want.op.word)) (h (line_of sizes want.op.word)))
   where

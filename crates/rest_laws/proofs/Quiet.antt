@@ -23,11 +23,11 @@ pub app-none : (xs ys : List Content) → xs ++ ys ≡ [] → (xs ≡ []) × (ys
 app-none [] ys e = (refl, e)
 app-none (x ∷ xs) ys e = cc
 
-silent-duty : (duty : Duty) → told_part duty ≡ [] → reply_part duty ≡ [] → duty ≡ NoDuty
+pub silent-duty : (duty : Duty) → told_part duty ≡ [] → reply_part duty ≡ [] → duty ≡ NoDuty
 silent-duty duty e f = grind arith
 
 -- a set with a member
-some-listed : (list : Nodes) → 0 < count list → (n : ℕ) × (listed list n ≡ true)
+pub some-listed : (list : Nodes) → 0 < count list → (n : ℕ) × (listed list n ≡ true)
 some-listed list many = go (in_order list) refl
   where
     go : (ns : List ℕ) → in_order list ≡ ns → (n : ℕ) × (listed list n ≡ true)

@@ -32,7 +32,7 @@ none-found p q (x ∷ xs) e = go (p x) refl (none-found p q xs)
         let rest = later (omega arith) in
         ap (λ c. (c && q x) || list_any (λ y. p y && q y) xs) is ∙ rest
 
-not-full : (limit n : ℕ) → n ≡ 0 → 0 < limit → nat_le limit n ≡ false
+pub not-full : (limit n : ℕ) → n ≡ 0 → 0 < limit → nat_le limit n ≡ false
 not-full limit n e some = grind (arith, nat_tests)
 
 module _ (charge : Charge) (trace : Trace) (usual : IsUsual trace) (past : Past) (known : IsKnown charge trace past) (rests : IsAtRest past.state) where

@@ -17,7 +17,7 @@ use Rattle.schedule_laws.proofs.Rounds.{IsRound, round-after, round-naks}
 use Rattle.schedule_laws.proofs.Single.{OnlyOne, first-one, one-front}
 use Rattle.schedule_laws.proofs.Under.{AllSent}
 
-same-front : (m other : Msg) (rest : List Msg) → ◌≡◌ {A = List Msg} (other ∷ rest) (m ∷ []) → (m ≡ other) × ([] ≡ rest)
+pub same-front : (m other : Msg) (rest : List Msg) → ◌≡◌ {A = List Msg} (other ∷ rest) (m ∷ []) → (m ≡ other) × ([] ≡ rest)
 same-front m other rest e = (cc, cc)
 
 no-naks : (n : ℕ) → n ≡ 0 → n ≤ 0

@@ -1,0 +1,69 @@
+-- A moment at rest: no line drains, and each is as a line of the delayed core of which nothing is under way; no home has a pending line, and a processor's next operation is begun at all nodes alike.
+use Rattle.std.proofs.Common.{◌≡◌, ℕ, suc, inl, inr, false, cond, ◌==◌, refl, ap, ◌∙◌, None, is_some}
+use Rattle.line_map.specs.Sizes.{Sizes, home_of}
+use Rattle.op_model.specs.Lines.{Outcome, is_pending}
+use Rattle.op_model.specs.Nodes.{listed}
+use Rattle.op_model.specs.Run.Rest.{IsAtRest}
+use Rattle.op_model.specs.Shares.{Lanes, Share, State, Trace, Unlinked, copy_of, header_of, pending_lines, put_share, room_of, want_after}
+use Rattle.one_history.specs.Project.{project}
+use Rattle.lane_bounds.proofs.Acts.{after_row_of}
+use Rattle.schedule_laws.proofs.Known.{IsUsual}
+use Rattle.schedule_laws.proofs.RestLines.{IsRestLine, rest-line}
+use Rattle.schedule_laws.proofs.RestMoments.{not-full}
+use Rattle.schedule_laws.proofs.Settling.{GoesOn, IsTracked, IsUnderway, at-share}
+use Rattle.eager_model.specs.Line.{AgedLine}
+use Rattle.eager_model.specs.Runs.{Past}
+use Rattle.eager_history.specs.Project.{aged_line}
+use Rattle.eager_history.specs.Sound.{IsEagerSound}
+use Rattle.eager_history.proofs.Runs.{sound-run}
+use Rattle.eager_schedule.proofs.Quiet.{good-at, idle, none-under}
+use Rattle.eager_schedule.proofs.Runs.{IsReached}
+
+module _ (trace : Trace) (usual : IsUsual trace) (past : Past) (reached : IsReached trace past) (rests : IsAtRest past.state) where
+  abbrev sizes : Sizes
+  sizes = trace.sizes
+
+  abbrev state : State
+  state = past.state
+
+  abbrev sound : IsEagerSound trace past
+  sound = sound-run trace reached.0 past usual.words reached.1
+
+  abbrev line_at : ℕ → AgedLine
+  line_at x = aged_line sizes past (sound.lines x).top x
+
+  pub rest-at : (x : ℕ) → IsRestLine (home_of sizes x) (header_of sizes (state.share (home_of sizes x)) x) (λ n. copy_of (state.share n) x)
+  unfolding aged_line project
+  rest-at x = rest-line (home_of sizes x) (line_at x).line (good-at trace past sound rests.lanes x) (none-under trace past sound rests.lanes x)
+
+  pub idle-at : (x : ℕ) → is_pending (header_of sizes (state.share (home_of sizes x)) x) ≡ false
+  idle-at x = idle trace past sound rests.lanes x
+
+  pub unlisted-at : (x : ℕ) → listed (header_of sizes (state.share (home_of sizes x)) x).list (home_of sizes x) ≡ false
+  unfolding aged_line project
+  unlisted-at x = (good-at trace past sound rests.lanes x).unlisted
+
+  pub room-free : (n : ℕ) → (room_of Unlinked sizes (state.share n)).full ≡ false
+  room-free n = not-full sizes.pending (pending_lines (state.share n)) (rests.idle n) usual.pending
+
+  -- what a row of p leaves begun or done, while the others rest
+  pub tracked-first : (p line : ℕ) (outcome : Outcome) (lane : Lanes) → GoesOn outcome → IsTracked p (λ n. (state.share n).place) (after_row_of sizes p line outcome (record state { lane = lane }))
+  unfolding put_share
+  tracked-first p line outcome lane goes =
+      record {
+        others = λ n apart. at-share sizes state lane p line outcome (λ s. (s.want ≡ None) × (s.place ≡ (state.share n).place)) n (λ _. (rests.wants n, refl)) (λ same. absurd (apart same));
+        own = at-share sizes state lane p line outcome (IsUnderway (state.share p).place) p (λ apart. absurd (apart refl)) (λ _. mine goes);
+      }
+    where
+      row : Share
+      row = put_share sizes (p == home_of sizes line) line outcome.done outcome.share (state.share p)
+
+      want-is : row.want ≡ outcome.share.want
+      want-is = ap (λ w. want_after sizes w line outcome.share.want) (rests.wants p)
+
+      place-is : row.place ≡ cond outcome.done (suc (state.share p).place) (state.share p).place
+      place-is = refl
+
+      mine : GoesOn outcome → IsUnderway (state.share p).place row
+      mine (inl done) = inr (want-is ∙ done.1, place-is ∙ ap (λ d. cond d (suc (state.share p).place) (state.share p).place) done.0)
+      mine (inr begun) = inl (ap is_some want-is ∙ begun.1, place-is ∙ ap (λ d. cond d (suc (state.share p).place) (state.share p).place) begun.0)
