@@ -1,0 +1,9 @@
+pub mod Loads
+pub mod Unordered
+pub mod Shares
+pub mod Acts
+pub mod HomeActs
+pub mod Steps
+pub mod Events
+pub mod TheRun
+pub mod Histories
