@@ -49,7 +49,10 @@ fn generated(rt: HostRuntime) -> Result<(), Fail> {
     again.extend_from_slice(&ran.output[start..])?;
     let judged = ends(&rt, alloc, "check", &again, 4096, &NoGate)?;
     assert_eq!(rt; judged.code, 0);
-    assert_eq!(rt; judged.output.as_slice(), b"flash check 1\nentries 1000\nmissing 0\nend\n".as_slice());
+    assert_eq!(rt;
+        judged.output.as_slice(),
+        b"flash check 1\nentries 1000\nmissing 0\nend\n".as_slice()
+    );
     Ok(())
 }
 
