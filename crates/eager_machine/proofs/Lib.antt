@@ -1,0 +1,16 @@
+pub mod ServedFor
+pub mod Departures
+pub mod Queues
+pub mod Runs
+pub mod Ways
+pub mod Quiet
+pub mod NodeLists
+pub mod After
+pub mod Answered
+pub mod Doing
+pub mod Takes
+pub mod Events
+pub mod Laws
+pub mod Applied
+pub mod Views
+pub mod Starts

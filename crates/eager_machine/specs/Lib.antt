@@ -1,0 +1,9 @@
+pub mod Lanes
+pub mod Outboxes
+pub mod Machines
+pub mod Journals
+pub mod Kept
+pub mod Acts
+pub mod Answers
+pub mod Runs
+pub mod Starts
