@@ -1,9 +1,14 @@
 //! The steps of a run, put in the place of its trace's last line, are replayed to the report that the run has printed, and `check` finds that report's history good.
 
 use crate::calls::ends;
+use decimal_text::put_decimal;
 use flash_top::{Gate, NoGate, Role};
+use std::alloc::Global;
+use std::process::Abort;
+use std::sync::Wait;
 use std::test::Fail;
 use std::thread;
+use std::thread::Threads;
 use trace_text::{generate, print_trace};
 
 /// Lets other threads go first at each call.
@@ -28,12 +33,14 @@ fn report_start(output: &[u8]) -> usize {
     output.len()
 }
 
-#[test]
-fn generated(rt: HostRuntime) -> Result<(), Fail> {
-    let alloc = rt.alloc();
-    let trace = generate(alloc, 1000, 1)?;
-    let input = print_trace(alloc, &trace)?;
-    let ran = ends(&rt, alloc, "run", &input, MORE_THAN_NEEDED, &Yielding)?;
+/// Runs a trace of so many operations in threads. Its steps are replayed to the report that was printed, whose history is good and has every operation.
+fn replays<R: Threads + Wait + Sync + Abort>(
+    rt: &R,
+    alloc: Global,
+    input: &[u8],
+    operations: &str,
+) -> Result<(), Fail> {
+    let ran = ends(rt, alloc, "run", input, MORE_THAN_NEEDED, &Yielding)?;
     assert_eq!(rt; ran.code, 0);
     assert!(rt; ran.output.starts_with(b"steps\n"));
     assert!(rt; input.ends_with(b"end\n"));
@@ -43,17 +50,46 @@ fn generated(rt: HostRuntime) -> Result<(), Fail> {
     assert!(rt; last_line <= input.len());
     let mut again = input[..last_line].to_vec(alloc)?;
     again.extend_from_slice(&ran.output[..start])?;
-    let replayed = ends(&rt, alloc, "replay", &again, MORE_THAN_NEEDED, &NoGate)?;
+    let replayed = ends(rt, alloc, "replay", &again, MORE_THAN_NEEDED, &NoGate)?;
     assert_eq!(rt; replayed.code, 0);
     assert_eq!(rt; replayed.output.as_slice(), &ran.output[start..]);
     again.extend_from_slice(&ran.output[start..])?;
-    let judged = ends(&rt, alloc, "check", &again, 4096, &NoGate)?;
+    let judged = ends(rt, alloc, "check", &again, 4096, &NoGate)?;
     assert_eq!(rt; judged.code, 0);
-    assert_eq!(rt;
-        judged.output.as_slice(),
-        b"flash check 1\nentries 1000\nmissing 0\nend\n".as_slice()
-    );
+    let good = format!(in alloc; "flash check 1\nentries {operations}\nmissing 0\nend\n")?;
+    assert_eq!(rt; judged.output.as_slice(), good.as_bytes());
     Ok(())
+}
+
+#[test]
+fn generated(rt: HostRuntime) -> Result<(), Fail> {
+    let alloc = rt.alloc();
+    let trace = generate(alloc, 1000, 1)?;
+    replays(&rt, alloc, &print_trace(alloc, &trace)?, "1000")
+}
+
+/// Swaps and adds, whose old values depend on the order.
+#[test]
+fn exchanged(rt: HostRuntime) -> Result<(), Fail> {
+    let input =
+        b"flash 2\nnodes 2\nlines 1\nwords 1\nlinks 1\nsets 1\npending 1\nevicts 1\n0 A 0x0 5\n1 A 0x0 7\n0 X 0x0 1\n1 L 0x0\nend\n";
+    replays(&rt, rt.alloc(), input, "4")
+}
+
+/// Sixty-three nodes that load a word which its home stores to.
+#[test]
+fn sixty_four_nodes(rt: HostRuntime) -> Result<(), Fail> {
+    let alloc = rt.alloc();
+    let mut input =
+        b"flash 1\nnodes 64\nlines 1\nwords 1\nlinks 62\nsets 1\npending 1\nevicts 1\n".to_vec(
+            alloc,
+        )?;
+    for node in 1..64 {
+        put_decimal(&mut input, node)?;
+        input.extend_from_slice(b" L 0x0\n")?;
+    }
+    input.extend_from_slice(b"0 S 0x0 5\nend\n")?;
+    replays(&rt, alloc, &input, "64")
 }
 
 /// What the trace is refused for is told as of any other command, and nothing is written.
