@@ -186,16 +186,14 @@ pub struct AgedEffect {
     pub served: u64,
 }
 
-impl AgedEffect {
-    /// The age of a message that the act sent. A PutX begins the next age.
-    pub fn age_of(&self, msg: &Msg) -> u64
-        requires { self.now.given < 18446744073709551615 }
-        ensures { result ≡ sent_age self.now.given (msg_content msg.now) }
-    {
-        match msg {
-            Msg::PutX { .. } => self.given + 1,
-            Msg::Put { .. } | Msg::ShWb { .. } | Msg::Wb { .. } => self.given,
-            _ => 0,
-        }
+/// The age of a message that an act sent, where the words that it gave have this one. A PutX begins the next age; a message without words has age 0.
+pub fn age_sent(given: u64, msg: &Msg) -> u64
+    requires { given < 18446744073709551615 }
+    ensures { result ≡ sent_age given (msg_content msg.now) }
+{
+    match msg {
+        Msg::PutX { .. } => given + 1,
+        Msg::Put { .. } | Msg::ShWb { .. } | Msg::Wb { .. } => given,
+        _ => 0,
     }
 }

@@ -12,7 +12,7 @@ mod taking;
 mod writes;
 
 pub use acks::on_inv_ack;
-pub use aging::AgedEffect;
+pub use aging::{AgedEffect, age_sent};
 pub use grants::on_getx;
 pub use magic_node::LocalEvent;
 pub use node::EagerNode;

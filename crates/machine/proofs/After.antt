@@ -1,7 +1,6 @@
 -- What the machine keeps, it keeps over an event.
 use Rattle.std.proofs.Common.{◌≡◌, ℕ, zero, suc, ◌+◌, ◌-◌, ◌≤◌, ◌<◌, Bool, true, false, cond, ◌==◌, List, [], ◌∷◌, ◌++◌, length, map, set, drop, refl, ap, arith, sym, subst, ◌∙◌, Option, Some, Ok}
-use Rattle.std.specs.Prelude.{slice_index, count_by, All}
-use Rattle.std.proofs.lemmas.List.Sums.{count_by-le-length, sum_by-append}
+use Rattle.std.specs.Prelude.{slice_index, option_to_list, All}
 use Rattle.std.proofs.lemmas.Bool.Decides.{nat_tests}
 use Rattle.line_map.specs.Sizes.{Sizes}
 use Rattle.op_model.specs.declared.events.Event.{Event}
@@ -14,38 +13,27 @@ use Rattle.op_model.specs.OwnPart.{IsOwnPart}
 use Rattle.op_model.specs.Shares.{Charge, Lanes, Share, want_on, program}
 use Rattle.op_model.specs.Events.Step.{Programs, Done, effect, after, to_lane}
 use Rattle.op_model.specs.Run.Runs.{Past, past_after, start, run_by, entries_of, entry_for}
-use Rattle.op_model.specs.Run.Counts.{Moment, Count, moments, all_counts, counted, taken_by}
+use Rattle.op_model.specs.Run.Counts.{moments, taken_by}
 use Rattle.message_range.specs.Fitting.{IsSentOf}
 use Rattle.own_part.proofs.Runs.{own_run}
 use Rattle.message_range.proofs.Places.{act-placed}
 use Rattle.lane_queues.specs.LaneStates.{LaneState}
 use Rattle.msg_words.specs.SendList.{SendList}
+use Rattle.event_tally.specs.Marks.{naks_in, marks_of, marked_up}
+use Rattle.event_tally.specs.Tallies.{tally_of, TellsMarks}
+use Rattle.event_tally.proofs.Tallies.{tally_of-push, tally_of-few}
 use Rattle.machine.specs.declared.acts.Act.{Act}
-use Rattle.machine.specs.Kept.{share_or, share_in, state_of, programs_in, charge_in, left_in, AreNodes, moments_in, tally_of, no_sends, AreLanesOf, IsKept}
-use Rattle.machine.specs.Marks.{naks_in, marks_of, marked_up}
-use Rattle.machine.specs.Acts.{sent_from, taken_off, off_of, entry_list, entries_after, FitsAll, IsRead, IsAct}
+use Rattle.machine.specs.Kept.{share_or, share_in, state_of, programs_in, charge_in, left_in, AreNodes, moments_in, no_sends, AreLanesOf, IsKept}
+use Rattle.machine.specs.Acts.{sent_from, taken_off, off_of, entries_after, FitsAll, IsRead, IsAct}
 use Rattle.machine.proofs.Faces.{local-at, share_in-set, programs_of-at, programs_in-set, charge_in-set, nodes-set, left-set}
 use Rattle.machine.proofs.Laws.{lane-fits, length-sent, programs-are, traced, machine-trace}
 use Rattle.machine.proofs.Programs.{trace_by, program-of}
+use Rattle.machine.proofs.ServedAfter.{served-after}
 use Rattle.machine.specs.Faces.{Face}
 use Rattle.cpu_cache.specs.Effects.{served_of}
 use Rattle.op_model.specs.Programs.{programs_of}
 use Rattle.machine.proofs.Sent.{sent-in}
 use Rattle.op_model.proofs.Runs.{moment_of, run-push, moments-push, length-moments}
-
--- one moment more, for each of a list of counts
-counted-push : (ms : List Moment) (m : Moment) (counts : List Count) → map (counted (ms ++ m ∷ [])) counts ≡ marked_up (map (counted ms) counts) (map (λ c. c.counts m) counts)
-counted-push ms m [] = refl
-counted-push ms m (c ∷ counts) = λ i. one i ∷ counted-push ms m counts i
-  where
-    one : count_by c.counts (ms ++ m ∷ []) ≡ count_by c.counts ms + cond (c.counts m) 1 0
-    one = sum_by-append (λ y. cond (c.counts y) 1 0) ms (m ∷ []) ∙ ap (λ n. count_by c.counts ms + n) (let e : 0 + cond (c.counts m) 1 0 ≡ cond (c.counts m) 1 0 = omega arith in e)
-
--- a number of a list of numbers, none of which is above this one
-mapped-below : {A : Type 0} (f : A → ℕ) (xs : List A) (n i : ℕ) → ((x : A) → f x ≤ n) → slice_index (map f xs) i ≤ n
-mapped-below f [] n i each = omega arith
-mapped-below f (x ∷ xs) n zero each = each x
-mapped-below f (x ∷ xs) n (suc i) each = mapped-below f xs n i each
 
 -- no count is above the number of events
 pub counts-few : (sizes : Sizes) (faces : List Face) (lanes : LaneState) (events : List Event) (served : List Entry) (tally : List ℕ) (left : ℕ) (out : SendList) → IsKept sizes faces lanes events served tally left out →
@@ -53,8 +41,7 @@ pub counts-few : (sizes : Sizes) (faces : List Face) (lanes : LaneState) (events
 counts-few sizes faces lanes events served tally left out kept i =
     let ms = moments_in sizes faces events in
     let long : length ms ≡ length events = length-moments (charge_in faces) sizes (programs_of (programs_in faces)) (start sizes) (record { state = state_of sizes faces lanes.lane; served = served }) events kept.ran in
-    subst (λ ns. slice_index ns i ≤ length events) (sym kept.tally_is)
-    (mapped-below (counted ms) (all_counts sizes) (length events) i (λ c. let few : counted ms c ≤ length ms = count_by-le-length c.counts ms in omega (arith, few, long)))
+    subst (λ ns. slice_index ns i ≤ length events) (sym kept.tally_is) (subst (λ n. slice_index (tally_of sizes ms) i ≤ n) long (tally_of-few sizes ms i))
 
 module _ (sizes : Sizes) (faces faces' : List Face) (lanes : LaneState) (events : List Event) (served : List Entry) (tally : List ℕ) (left : ℕ) (out : SendList) (event : Event) (sends : List (ℕ × Msg)) (act : Act)
     (kept : IsKept sizes faces lanes events served tally left out) (is : IsAct (charge_in faces) sizes faces faces' lanes.lane event sends act) where
@@ -139,38 +126,11 @@ module _ (sizes : Sizes) (faces faces' : List Face) (lanes : LaneState) (events 
   place-before : past.state.share act.node ≡ is.row.face.share
   place-before = ap (share_or sizes act.node) is.row.there
 
-  -- a node that is sent words stands where it stood, and wants what it wanted
-  spot : IsRead is.row.face is.row.out taken → (q : ℕ) → (share_in sizes faces' q).place ≡ (share_in sizes faces q).place
-  spot read q = ap (λ (s : Share). s.place) (share-after q) ∙ at-node (q == act.node) refl
-    where
-      at-node : (b : Bool) → (q == act.node) ≡ b → (cond b is.row.out.share (share_in sizes faces q)).place ≡ (share_in sizes faces q).place
-      at-node true test = let here : act.node ≡ q = grind (arith, nat_tests) in read.place ∙ ap (λ (s : Share). s.place) (sym place-before) ∙ ap (λ n. (share_in sizes faces n).place) here
-      at-node false test = refl
-
-  wish : IsRead is.row.face is.row.out taken → (q : ℕ) → (share_in sizes faces' q).want ≡ (share_in sizes faces q).want
-  wish read q = ap (λ (s : Share). s.want) (share-after q) ∙ at-node (q == act.node) refl
-    where
-      at-node : (b : Bool) → (q == act.node) ≡ b → (cond b is.row.out.share (share_in sizes faces q)).want ≡ (share_in sizes faces q).want
-      at-node true test = let here : act.node ≡ q = grind (arith, nat_tests) in read.want ∙ ap (λ (s : Share). s.want) (sym place-before) ∙ ap (λ n. (share_in sizes faces n).want) here
-      at-node false test = refl
-
   -- what was served, read after the event
-  served-after : entries_after sizes faces' taken is.effect.served ≡ entries_of sizes past.state act.node is.row.out.line is.row.out.served
-  served-after = ap (entries_after sizes faces' taken) is.row.served ∙ go is.row.out.served refl
-    where
-      go : (s : Service) → is.row.out.served ≡ s → entries_after sizes faces' taken (served_of act.node is.row.face.share.place s) ≡ entries_of sizes past.state act.node is.row.out.line s
-      go NoService at = refl
-      go (Own op on) at = ap (λ (s : Share). entry_of act.node s.place op on ∷ []) (sym place-before)
-      go (For reader on) at =
-          let read = is.reads reader on at in
-          let same : (share_in sizes faces' reader).place ≡ (share_in sizes faces reader).place = spot read reader in
-          let wants : (share_in sizes faces' reader).want ≡ (share_in sizes faces reader).want = wish read reader in
-          ap (λ t. entries_after sizes faces' t (served_of act.node is.row.face.share.place (For reader on))) read.taken_is
-          ∙ (λ i. entry_for reader (same i) on (want_on sizes (wants i) (msg_line read.m)))
-          ∙ ap (λ l. entry_for reader (share_in sizes faces reader).place on (want_on sizes (share_in sizes faces reader).want l)) (sym read.line)
-
-  entry-after : entry_list act.entry ≡ entries_of sizes past.state act.node is.row.out.line is.row.out.served
-  entry-after = is.noted.entry_is ∙ served-after
+  entry-after : option_to_list act.entry ≡ entries_of sizes past.state act.node is.row.out.line is.row.out.served
+  entry-after =
+      is.noted.entry_is ∙ ap (entries_after sizes (share_in sizes faces') taken) (is.row.served ∙ ap (λ (s : Share). served_of act.node s.place is.row.out.served) (sym place-before))
+      ∙ served-after sizes (share_in sizes faces) (share_in sizes faces') act.node is.row.out taken share-after lanes.lane (λ reader on at. subst (λ s. IsRead s is.row.out taken) (sym place-before) (is.reads reader on at))
 
   finished : act.done ≡ is.row.out.done
   finished = is.noted.done_is ∙ is.row.is_done
@@ -179,20 +139,15 @@ module _ (sizes : Sizes) (faces faces' : List Face) (lanes : LaneState) (events 
   abbrev made_marks : List Bool
   made_marks = marks_of event act.takes act.done (naks_in sends) act.marked
 
-  marks-after : map (λ c. c.counts (moment_of past.state event done)) (all_counts sizes) ≡ made_marks
-  marks-after =
-      let a = is.takes_is in
-      let b = finished in
-      let c = is.row.sends_are in
-      let d = is.marked_is in
-      sym (λ i. marks_of event (a i) (b i) (naks_in (c i)) (d i))
+  told : TellsMarks sizes (moment_of past.state event done) act.takes act.done sends act.marked
+  told = record { takes_is = is.takes_is; done_is = finished; sends_are = is.row.sends_are; marked_is = is.marked_is }
 
   tally-after : tally_of sizes (moments_in sizes faces' (events ++ event ∷ [])) ≡ marked_up tally made_marks
   tally-after =
       (λ i. tally_of sizes (moments (same-charge i) sizes (programs_of (same-programs i)) (start sizes).state (events ++ event ∷ [])))
       ∙ ap (tally_of sizes) (moments-push charge sizes programs (start sizes) past events event done kept.ran is.does)
-      ∙ counted-push (moments_in sizes faces events) (moment_of past.state event done) (all_counts sizes)
-      ∙ (λ i. marked_up (sym kept.tally_is i) (marks-after i))
+      ∙ tally_of-push sizes (moment_of past.state event done) act.takes act.done sends act.marked told (moments_in sizes faces events)
+      ∙ ap (λ ns. marked_up ns made_marks) (sym kept.tally_is)
 
   left-after : left_in faces' + cond act.done 1 0 ≡ left
   left-after =
@@ -204,7 +159,7 @@ module _ (sizes : Sizes) (faces faces' : List Face) (lanes : LaneState) (events 
   some-left finishes = let all = left-after in let one : ◌≡◌ {A = ℕ} (cond act.done 1 0) 1 = ap (λ b. cond b 1 0) finishes in omega (arith, all, one)
 
   pub kept-after : (lanes' : LaneState) (events' : List Event) (served' : List Entry) (tally' : List ℕ) (left' : ℕ) (out' : SendList) → lanes' ≡ record lanes { lane = moved } → events' ≡ events ++ event ∷ [] →
-      served' ≡ served ++ entry_list act.entry → tally' ≡ marked_up tally made_marks → left' ≡ left - cond act.done 1 0 → out' ≡ no_sends sizes →
+      served' ≡ served ++ option_to_list act.entry → tally' ≡ marked_up tally made_marks → left' ≡ left - cond act.done 1 0 → out' ≡ no_sends sizes →
       IsKept sizes faces' lanes' events' served' tally' left' out'
   kept-after lanes' events' served' tally' left' out' lanes_is events_is served_is tally_is left_is out_is = record {
     sizes_are = kept.sizes_are;

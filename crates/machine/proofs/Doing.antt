@@ -51,27 +51,35 @@ entry-some node place words program within = go (slice_get program place) (some-
     go None none = cc
     go (Some op) some = refl
 
-done-some : (node place : ℕ) (words : Words) (program : List Op) (done : Bool) → (done ≡ true → place < length program) → is_some (done_of node program place done words) ≡ done
+pub done-some : (node place : ℕ) (words : Words) (program : List Op) (done : Bool) → (done ≡ true → place < length program) → is_some (done_of node program place done words) ≡ done
 done-some node place words program true within = entry-some node place words program (within refl)
 done-some node place words program false within = refl
 
-module _ (sizes : Sizes) (charge : Charge) (faces : List Face) (node : ℕ) (old : Face) (there : slice_get faces node ≡ Some old) (is : IsNodeAt sizes charge node old) where
-  pub fits-event : (event : LocalEvent) → FitsEvent sizes node event → FitsEvent old.sizes old.number event
-  fits-event event fits = subst (λ (s : Sizes). FitsEvent s old.number event) (sym is.same_sizes) (subst (λ n. FitsEvent sizes n event) (sym is.number_is) fits)
+-- at a node of the machine's sizes, of this number, an event fits that fits the machine
+pub fits-event : (sizes own_sizes : Sizes) (node number : ℕ) (event : LocalEvent) → own_sizes ≡ sizes → number ≡ node → FitsEvent sizes node event → FitsEvent own_sizes number event
+fits-event sizes own_sizes node number event same here fits = subst (λ (s : Sizes). FitsEvent s number event) (sym same) (subst (λ n. FitsEvent sizes n event) (sym here) fits)
 
+-- and there is room for what it sends
+pub sends-room : (sizes own_sizes : Sizes) (out : SendList) → own_sizes ≡ sizes → out ≡ no_sends sizes → HasRoom out (own_sizes.nodes + 1)
+sends-room sizes own_sizes out same none =
+    let list : length out.list ≡ 0 = ap (λ (o : SendList). length o.list) none in
+    let room : out.room ≡ sizes.nodes + 1 = ap (λ (o : SendList). o.room) none in
+    let nodes : own_sizes.nodes ≡ sizes.nodes = ap (λ (s : Sizes). s.nodes) same in
+    omega (arith, list, room, nodes)
+
+-- words that are served to another node fill a line where the row says so
+pub served-fills : (sizes : Sizes) (number place : ℕ) (s : Service) → IsServedOf sizes s → FillsLine sizes (served_of number place s)
+served-fills sizes number place NoService fills = tt
+served-fills sizes number place (Own op on) fills = tt
+served-fills sizes number place (For reader on) fills = fills
+
+module _ (sizes : Sizes) (charge : Charge) (faces : List Face) (node : ℕ) (old : Face) (there : slice_get faces node ≡ Some old) (is : IsNodeAt sizes charge node old) where
   pub meets-at-node : (src : ℕ) (m : Msg) → meets_row old.sizes old.number old.share src m ≡ meets_row sizes node (share_in sizes faces node) src m
   meets-at-node src m =
       let a = is.same_sizes in
       let b = is.number_is in
       let d = sym (share_in-at sizes faces node old there) in
       λ i. meets_row (a i) (b i) (d i) src m
-
-  pub sends-room : (out : SendList) → out ≡ no_sends sizes → HasRoom out (old.sizes.nodes + 1)
-  sends-room out none =
-      let list : length out.list ≡ 0 = ap (λ (o : SendList). length o.list) none in
-      let room : out.room ≡ sizes.nodes + 1 = ap (λ (o : SendList). o.room) none in
-      let nodes : old.sizes.nodes ≡ sizes.nodes = ap (λ (s : Sizes). s.nodes) is.same_sizes in
-      omega (arith, list, room, nodes)
 
   pub done-at : (new : Face) (input : Input) (brought : Words) (before after : SendList) (effect : Effect) → before ≡ no_sends sizes → IsOwnPart old.charge old.sizes old.number old.program old.share → new ≡ record old { share = new.share } →
       Acts old.number old.program old.share.place brought (outcome_at old input) new.share before after effect → IsDoneAt sizes faces (set faces node new) node input after.list effect
@@ -110,9 +118,4 @@ module _ (sizes : Sizes) (charge : Charge) (faces : List Face) (node : ℕ) (old
   pub fills-line : (src : ℕ) (m : Msg) (victim : Option ℕ) (brought : Words) (before after : SendList) (new : Face) (effect : Effect) → AreSizes sizes → node < sizes.nodes → src < sizes.nodes → IsMsgOf sizes m → IsOwnPart old.charge old.sizes old.number old.program old.share →
       IsShareOf old.sizes old.share → Acts old.number old.program old.share.place brought (outcome_at old (TakeFrom src m victim)) new.share before after effect → FillsLine sizes effect.served
   fills-line src m victim brought before after new effect are below from of own fits acts =
-      subst (FillsLine sizes) (sym (ap (λ (e : Effect). e.served) acts.told)) (go acts.outcome.served (fills-at src m victim acts.outcome are below from of own fits acts.is))
-    where
-      go : (s : Service) → IsServedOf sizes s → FillsLine sizes (served_of old.number old.share.place s)
-      go NoService fills = tt
-      go (Own op on) fills = tt
-      go (For reader on) fills = fills
+      subst (FillsLine sizes) (sym (ap (λ (e : Effect). e.served) acts.told)) (served-fills sizes old.number old.share.place acts.outcome.served (fills-at src m victim acts.outcome are below from of own fits acts.is))

@@ -14,10 +14,10 @@ use Rattle.op_model.specs.Run.Counts.{front_of, taken_by, takes_marked}
 use Rattle.magic_node.specs.declared.acts.LocalEvent.{LocalEvent}
 use Rattle.cpu_cache.specs.declared.effects.Effect.{Effect}
 use Rattle.lane_queues.specs.LaneStates.{HasFront}
+use Rattle.event_tally.specs.Marks.{take_marks_of, is_marked_put}
 use Rattle.machine.specs.declared.acts.Act.{Act}
 use Rattle.machine.specs.Kept.{programs_in, share_in, state_of, AreNodes}
-use Rattle.machine.specs.Marks.{take_marks_of}
-use Rattle.machine.specs.Acts.{off_of, IsDoneAt, IsRefusedAt, IsNoted, IsAlone, TakesFront, IsAct, IsRefusedIn, IsRead, is_marked_put, permit_at, IsPermitIn}
+use Rattle.machine.specs.Acts.{off_of, IsDoneAt, IsRefusedAt, IsNoted, IsAlone, TakesFront, IsAct, IsRefusedIn, IsRead, permit_at, IsPermitIn}
 use Rattle.machine.proofs.Faces.{local-at}
 use Rattle.machine.specs.Faces.{Face}
 use Rattle.magic_node.specs.Nodes.{input_of}
@@ -78,7 +78,7 @@ module _ (charge : Charge) (sizes : Sizes) (faces faces' : List Face) (lane : La
         takes ∙ ap (act dst (one_off src dst class)) (local-at sizes charge faces dst refused.face refused.there (nodes.each dst refused.face refused.there) (TakeFrom src m victim) ∙ refused.refuses)
 
     -- where it is sent words, its reader is elsewhere, or begins nothing here
-    read : {node : ℕ} {effect : Effect} {sends : List (ℕ × Msg)} (row : IsDoneAt sizes faces faces' node (TakeFrom src m victim) sends effect) → is_for row.out.served ≡ true → IsRead row.face row.out (taken_by (state_of sizes faces lane) take_event)
+    read : {node : ℕ} {effect : Effect} {sends : List (ℕ × Msg)} (row : IsDoneAt sizes faces faces' node (TakeFrom src m victim) sends effect) → is_for row.out.served ≡ true → IsRead row.face.share row.out (taken_by (state_of sizes faces lane) take_event)
     read row for =
         let quiet = take-quiet row.face.charge row.face.sizes row.face.number row.face.program row.face.share src m victim row.out row.does in
         let place = place-after row.face.charge row.face.sizes row.face.number row.face.program row.face.share (TakeFrom src m victim) row.out row.does in

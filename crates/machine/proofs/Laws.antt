@@ -26,23 +26,17 @@ use Rattle.machine.specs.Faces.{Face}
 use Rattle.op_model.specs.Programs.{programs_of, IsProgramOf}
 use Rattle.machine.proofs.Programs.{trace_by, program-of, of-machine}
 
--- an element of a mapped list is that of the list
-record IsMapped {A B : Type 0} (f : A → B) (xs : List A) (i : ℕ) (y : B) : Type 0 where
-  pub from : A
-  pub there : slice_get xs i ≡ Some from
-  pub is : f from ≡ y
-
-mapped-from : {A B : Type 0} (f : A → B) (xs : List A) (i : ℕ) (y : B) → slice_get (map f xs) i ≡ Some y → IsMapped f xs i y
-mapped-from {A = A} f xs i y is = go (slice_get xs i) refl (sym (slice_get-map f xs i) ∙ is)
+-- each program of a list of nodes is of its node
+pub programs-each : {A : Type 0} (program_in : A → List Op) (sizes : Sizes) (nodes : List A) → ((node : ℕ) (x : A) → slice_get nodes node ≡ Some x → IsProgramOf sizes node (program_in x)) →
+    (node : ℕ) (program : List Op) → slice_get (map program_in nodes) node ≡ Some program → IsProgramOf sizes node program
+programs-each {A = A} program_in sizes nodes each node program is = go (slice_get nodes node) refl (sym (slice_get-map program_in nodes node) ∙ is)
   where
-    go : (o : Option A) → slice_get xs i ≡ o → option_map f o ≡ Some y → IsMapped f xs i y
+    go : (o : Option A) → slice_get nodes node ≡ o → option_map program_in o ≡ Some program → IsProgramOf sizes node program
     go None at e = cc
-    go (Some x) at e = record { from = x; there = at; is = let same : f x ≡ y = cc in same }
+    go (Some x) at e = let same : program_in x ≡ program = cc in subst (IsProgramOf sizes node) same (each node x at)
 
 pub programs-are : (sizes : Sizes) (charge : Charge) (faces : List Face) → AreNodes sizes charge faces → (node : ℕ) (program : List Op) → slice_get (programs_in faces) node ≡ Some program → IsProgramOf sizes node program
-programs-are sizes charge faces nodes node program is =
-    let from = mapped-from (λ (f : Face). f.program) faces node program is in
-    subst (IsProgramOf sizes node) from.is (nodes.each node from.from from.there).program
+programs-are sizes charge faces nodes = programs-each (λ (f : Face). f.program) sizes faces (λ node face is. (nodes.each node face is).program)
 
 pub some-words : (sizes : Sizes) → AreSizes sizes → 0 < sizes.words
 some-words sizes are = let words = are.words in grind (arith, nat_tests)

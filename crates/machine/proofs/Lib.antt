@@ -1,4 +1,3 @@
-pub mod Tallies
 pub mod Sendings
 pub mod Faces
 pub mod Doing
@@ -8,6 +7,7 @@ pub mod Lists
 pub mod Programs
 pub mod Laws
 pub mod Sent
+pub mod ServedAfter
 pub mod After
 pub mod Kept
 pub mod Starts

@@ -36,11 +36,11 @@ begun-at-home : (home : ℕ) (room : Room) (op : Op) (share : LineShare) (outcom
 unfolding begin_at_home
 begun-at-home home room op share outcome is = grind arith
 
-begun-op : (me home : ℕ) (room : Room) (op : Op) (share : LineShare) (outcome : Outcome) → begin_op me home room op share ≡ Ok outcome → is_for outcome.served ≡ false
+pub begun-op : (me home : ℕ) (room : Room) (op : Op) (share : LineShare) (outcome : Outcome) → begin_op me home room op share ≡ Ok outcome → is_for outcome.served ≡ false
 unfolding begin_op ask
 begun-op me home room op share outcome is = let h = begun-at-home home room op share outcome in grind arith
 
-evicted : (me home : ℕ) (kind : EvictKind) (share : LineShare) (outcome : Outcome) → evict me home kind share ≡ Ok outcome → is_for outcome.served ≡ false
+pub evicted : (me home : ℕ) (kind : EvictKind) (share : LineShare) (outcome : Outcome) → evict me home kind share ≡ Ok outcome → is_for outcome.served ≡ false
 unfolding evict
 evicted me home kind share outcome is = grind arith
 
@@ -60,7 +60,7 @@ written-for at_home words share None is = rw is refl
 written-for at_home words share (Some want) is = rw is refl
 
 -- the row of a message that serves another node leaves what this one wants, and does nothing of its own
-row-quiet : (me home src : ℕ) (room : Room) (content : Content) (share : LineShare) → is_for (row_of me home src room content share).served ≡ true → (row_of me home src room content share).share.want ≡ share.want
+pub row-quiet : (me home src : ℕ) (room : Room) (content : Content) (share : LineShare) → is_for (row_of me home src room content share).served ≡ true → (row_of me home src room content share).share.want ≡ share.want
 unfolding row_of on_get on_getx on_fwd_get on_fwd_getx on_inv on_wb on_rpl on_put on_nak on_inv_ack on_shwb on_fack on_nakc
 row-quiet me home src room Get share is = grind arith
 row-quiet me home src room GetX share is = grind arith
@@ -77,7 +77,7 @@ row-quiet me home src room (ShWb words) share is = grind arith
 row-quiet me home src room FAck share is = grind arith
 row-quiet me home src room Nakc share is = grind arith
 
-row-undone : (me home src : ℕ) (room : Room) (content : Content) (share : LineShare) → is_for (row_of me home src room content share).served ≡ true → (row_of me home src room content share).done ≡ false
+pub row-undone : (me home src : ℕ) (room : Room) (content : Content) (share : LineShare) → is_for (row_of me home src room content share).served ≡ true → (row_of me home src room content share).done ≡ false
 unfolding row_of on_get on_getx on_fwd_get on_fwd_getx on_inv on_wb on_rpl on_put on_nak on_inv_ack on_shwb on_fack on_nakc
 row-undone me home src room Get share is = grind arith
 row-undone me home src room GetX share is = grind arith
@@ -177,7 +177,7 @@ row-place : (sizes : Sizes) (me : ℕ) (share : Share) (line : ℕ) (outcome : O
 unfolding put_share
 row-place sizes me share line outcome = refl
 
-row-want : (sizes : Sizes) (me : ℕ) (share : Share) (line : ℕ) (outcome : Outcome) → outcome.share.want ≡ want_on sizes share.want line → (by_row sizes me share line outcome).share.want ≡ share.want
+pub row-want : (sizes : Sizes) (me : ℕ) (share : Share) (line : ℕ) (outcome : Outcome) → outcome.share.want ≡ want_on sizes share.want line → (by_row sizes me share line outcome).share.want ≡ share.want
 unfolding put_share
 row-want sizes me share line outcome same = ap (want_after sizes share.want line) same ∙ want-stays sizes share.want line
 

@@ -15,22 +15,25 @@ use Rattle.op_model.specs.Run.Runs.{start_share}
 use Rattle.dir_header.specs.Sharers.{Directory}
 use Rattle.lane_queues.specs.LaneStates.{LaneState, no_messages}
 use Rattle.msg_words.specs.SendList.{SendList}
+use Rattle.event_tally.proofs.Tallies.{tally_of-nil}
 use Rattle.machine.specs.Kept.{programs_in, charge_in, share_or, share_in, left_at, left_in, no_sends, IsNodeAt, AreLanesOf, IsKept}
 use Rattle.machine.specs.Starts.{charge_of, IsFreshOf, AreFresh, IsNewAt, AreNew}
 use Rattle.machine.specs.Faces.{Face, start_face}
 use Rattle.op_model.specs.Programs.{IsProgramOf, ArePrograms}
 use Rattle.machine.proofs.Faces.{slice_get-mapped}
 
-slice_get-push_below : {A : Type 0} (xs : List A) (x : A) (k : ℕ) → k < length xs → slice_get (xs ++ x ∷ []) k ≡ slice_get xs k
+-- an element before the last one
+pub slice_get-push_below : {A : Type 0} (xs : List A) (x : A) (k : ℕ) → k < length xs → slice_get (xs ++ x ∷ []) k ≡ slice_get xs k
 slice_get-push_below [] x k below = absurd (omega arith)
 slice_get-push_below (y ∷ xs) x zero below = refl
 slice_get-push_below (y ∷ xs) x (suc k) below = slice_get-push_below xs x k (omega arith)
 
-slice_get-middle : {A : Type 0} (xs : List A) (y : A) (ys : List A) → slice_get (xs ++ y ∷ ys) (length xs) ≡ Some y
+-- the element behind these
+pub slice_get-middle : {A : Type 0} (xs : List A) (y : A) (ys : List A) → slice_get (xs ++ y ∷ ys) (length xs) ≡ Some y
 slice_get-middle [] y ys = refl
 slice_get-middle (x ∷ xs) y ys = slice_get-middle xs y ys
 
-below_or_at : (k n : ℕ) → k < n + 1 → (k < n) ⊎ (k ≡ n)
+pub below_or_at : (k n : ℕ) → k < n + 1 → (k < n) ⊎ (k ≡ n)
 below_or_at k n below = go (cases_lt k n)
   where
     go : (k < n) ⊎ (n ≤ k) → (k < n) ⊎ (k ≡ n)
@@ -158,7 +161,7 @@ start-kept sizes programs dirs faces lanes left out sizes_are all new lanes_is l
       nodes = record { count = count; each = λ node face is. subst (λ ch. IsNodeAt sizes ch node face) (sym charge) (new.each node face is).its };
       lanes_are = subst (AreLanesOf sizes) (sym lanes_is) (record { same_sizes = refl; requests = refl; replies = refl });
       ran = λ i. Some (record { state = record { share = λ node. sym (new-shares sizes programs dirs faces new node) i; lane = (sym lanes_is i).lane }; served = [] });
-      tally_is = refl;
+      tally_is = sym (tally_of-nil sizes);
       left_is = left_is ∙ sym (new-left faces (λ node face is. ap (λ (s : Share). s.place) (new.each node face is).share_is) ∙ ap (sum_by length) new.programs_are);
       nothing_sent = out_is;
     }

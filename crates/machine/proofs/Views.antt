@@ -23,8 +23,9 @@ use Rattle.rest_laws.proofs.Falls.{falling_weight}
 use Rattle.rest_laws.proofs.Enabled.{enabled_take}
 use Rattle.lane_queues.specs.LaneStates.{LaneState, AreEmpty}
 use Rattle.msg_words.specs.SendList.{SendList}
+use Rattle.event_tally.proofs.Tallies.{tally_of-at}
 use Rattle.machine.specs.Machines.{MachineView, run_of, trace_of, AreAllDone, IsMachine, IsNext, effect_in}
-use Rattle.machine.specs.Kept.{share_in, state_of, programs_in, charge_in, left_at, IsKept}
+use Rattle.machine.specs.Kept.{share_in, state_of, programs_in, charge_in, left_at, moments_in, IsKept}
 use Rattle.machine.specs.Views.{view_by, IsNodeOf}
 use Rattle.machine.proofs.Faces.{slice_get-read, programs_of-at, share_in-at}
 use Rattle.machine.proofs.Laws.{some-words, some-links, traced, programs-are}
@@ -78,12 +79,6 @@ sum-nothing f (y ∷ xs) none (suc i) x is = let s = sum_by-cons f y xs in sum-n
 nothing-summed : {A : Type 0} (f : A → ℕ) (xs : List A) → ((i : ℕ) (x : A) → slice_get xs i ≡ Some x → f x ≡ 0) → sum_by f xs ≡ 0
 nothing-summed f [] each = refl
 nothing-summed f (y ∷ xs) each = let s = sum_by-cons f y xs in let here = each 0 y refl in let rest = nothing-summed f xs (λ i. each (suc i)) in omega (arith, s, here, rest)
-
--- the number at a place of a list of them
-mapped-at : {A : Type 0} (f : A → ℕ) (xs : List A) (i : ℕ) (x : A) → slice_get xs i ≡ Some x → get_or (map f xs) i 0 ≡ f x
-mapped-at f [] i x is = cc
-mapped-at f (y ∷ xs) zero x is = ap f (let same : y ≡ x = cc in same)
-mapped-at f (y ∷ xs) (suc i) x is = mapped-at f xs i x is
 
 module _ {D : Type 0} (sizes : Sizes) (faces : List Face) (lanes : LaneState) (events : List Event) (served : List Entry) (tally : List ℕ) (left : ℕ) (out : SendList) (dirs : List D) (view : MachineView D)
     (kept : IsKept sizes faces lanes events served tally left out) (is : view_by sizes faces events dirs ≡ view) where
@@ -149,7 +144,7 @@ module _ {D : Type 0} (sizes : Sizes) (faces : List Face) (lanes : LaneState) (e
   pub view-count : (i : ℕ) (c : Count) → slice_get (all_counts view.sizes) i ≡ Some c → get_or tally i 0 ≡ counted (moments view.charge view.sizes (programs_of view.programs) (start view.sizes).state view.events) c
   view-count i c =
       subst (λ (v : MachineView D). slice_get (all_counts v.sizes) i ≡ Some c → get_or tally i 0 ≡ counted (moments v.charge v.sizes (programs_of v.programs) (start v.sizes).state v.events) c) is
-      (λ at. ap (λ ns. get_or ns i 0) kept.tally_is ∙ mapped-at (counted (moments (charge_in faces) sizes (programs_of (programs_in faces)) (start sizes).state events)) (all_counts sizes) i c at)
+      (λ at. ap (λ ns. get_or ns i 0) kept.tally_is ∙ tally_of-at sizes (moments_in sizes faces events) i c at)
 
   -- what holds of each machine
   pub view-machine : IsMachine view

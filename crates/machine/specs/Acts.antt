@@ -1,60 +1,58 @@
 -- What an event did at its node, and how the messages go their ways.
-use Rattle.std.specs.Prelude.{◌≡◌, ℕ, suc, ◌+◌, ◌≤◌, ◌<◌, ◌==◌, Bool, true, false, if◌then◌else◌, not, ◌&&◌, List, [], ◌∷◌, ◌++◌, length, drop, set, slice_get, is_some, Option, Some, None, Result, Ok, Err}
-use Rattle.line_map.specs.Sizes.{Sizes, home_of}
+use Rattle.std.specs.Prelude.{◌≡◌, ℕ, suc, ◌+◌, ◌≤◌, ◌<◌, ◌==◌, Bool, true, false, if◌then◌else◌, List, [], ◌∷◌, ◌++◌, length, drop, set, slice_get, is_some, option_to_list, Option, Some, None, Result, Ok, Err}
+use Rattle.line_map.specs.Sizes.{Sizes}
 use Rattle.op_model.specs.declared.events.Cause.{Cause}
 use Rattle.op_model.specs.declared.events.Class.{Class}
 use Rattle.op_model.specs.declared.events.Event.{Event}
 use Rattle.op_model.specs.declared.events.Event.TheVariants.{Take}
 use Rattle.op_model.specs.declared.messages.Msg.{Msg}
 use Rattle.op_model.specs.declared.operations.Entry.{Entry}
-use Rattle.op_model.specs.declared.state.Want.{Want}
-use Rattle.op_model.specs.Messages.{msg_line, msg_content}
+use Rattle.op_model.specs.Messages.{msg_line}
 use Rattle.op_model.specs.Lines.{For}
 use Rattle.op_model.specs.Operations.{Words}
-use Rattle.op_model.specs.Shares.{Charge, Lanes, want_on}
+use Rattle.op_model.specs.Shares.{Charge, Lanes, Share, want_on}
 use Rattle.op_model.specs.Events.Node.{Input, NodeOutcome, meets_row, local, permit}
 use Rattle.op_model.specs.Events.Step.{Off, none_off, one_off, to_lane}
 use Rattle.op_model.specs.Events.Step.{effect as effect_of}
-use Rattle.op_model.specs.Run.Counts.{taken_by, takes_marked, is_kind, APut, is_marked}
+use Rattle.op_model.specs.Run.Counts.{taken_by, takes_marked}
 use Rattle.op_model.specs.Run.Runs.{entry_for}
 use Rattle.cpu_cache.specs.declared.effects.Effect.{Effect}
 use Rattle.cpu_cache.specs.declared.effects.Served.{Served}
 use Rattle.cpu_cache.specs.declared.effects.Served.TheVariants as served
 use Rattle.lane_queues.specs.LaneStates.{LaneState, HasFront, capacity_of}
+use Rattle.event_tally.specs.Marks.{take_marks_of}
 use Rattle.machine.specs.declared.acts.Act.{Act}
 use Rattle.machine.specs.Faces.{Face, outcome_at}
 use Rattle.cpu_cache.specs.Effects.{served_of}
 use Rattle.op_model.specs.Programs.{programs_of}
 use Rattle.machine.specs.Kept.{programs_in, share_in, state_of}
-use Rattle.machine.specs.Marks.{take_marks_of}
 
--- lanes after a node's messages have come to their ends
+-- lanes after a node's messages have come to their ends, those of a lane put into it so
+abbrev pub sent_by : {A : Type 0} → (List Msg → List A) → ℕ → List (ℕ × Msg) → (ℕ → ℕ → Class → List A) → ℕ → ℕ → Class → List A
+sent_by put node sends lane a b class = lane a b class ++ (if a == node then put (to_lane b class sends) else [])
+
+-- and as they are
 abbrev pub sent_from : ℕ → List (ℕ × Msg) → Lanes → Lanes
-sent_from node sends lane a b class = lane a b class ++ (if a == node then to_lane b class sends else [])
+sent_from node sends lane a b class = sent_by (λ messages. messages) node sends lane a b class
 
 -- how many messages an event takes from the front of each lane, and the lanes without them
 abbrev pub off_of : Event → Off
 off_of (Take src dst class victim) = one_off src dst class
 off_of _ = none_off
 
-abbrev pub taken_off : Event → Lanes → Lanes
+abbrev pub taken_off : {A : Type 0} → Event → (ℕ → ℕ → Class → List A) → ℕ → ℕ → Class → List A
 taken_off event lane a b class = drop (off_of event a b class) (lane a b class)
 
 -- all messages fit behind what a node's lanes hold
 abbrev pub FitsAll : LaneState → ℕ → List (ℕ × Msg) → Type 0
 FitsAll state node sends = (dst : ℕ) (class : Class) → length (state.lane node dst class) + length (to_lane dst class sends) ≤ capacity_of state class
 
--- the entries of a call's answer
-abbrev pub entry_list : Option Entry → List Entry
-entry_list None = []
-entry_list (Some entry) = entry ∷ []
-
--- the entries of what an event served, read from the nodes after it. A load of another node is on the line of the message that was taken
-abbrev pub entries_after : Sizes → List Face → Option Msg → Served → List Entry
-entries_after sizes faces taken served.Nothing = []
-entries_after sizes faces taken (served.Own entry) = entry ∷ []
-entries_after sizes faces None (served.LoadBy node on) = []
-entries_after sizes faces (Some m) (served.LoadBy node on) = entry_for node (share_in sizes faces node).place on (want_on sizes (share_in sizes faces node).want (msg_line m))
+-- the entries of what an event served, read from the shares after it. A load of another node is on the line of the message that was taken
+abbrev pub entries_after : Sizes → (ℕ → Share) → Option Msg → Served → List Entry
+entries_after sizes share taken served.Nothing = []
+entries_after sizes share taken (served.Own entry) = entry ∷ []
+entries_after sizes share None (served.LoadBy node on) = []
+entries_after sizes share (Some m) (served.LoadBy node on) = entry_for node (share node).place on (want_on sizes (share node).want (msg_line m))
 
 -- words that another node is sent fill a line
 abbrev pub FillsLine : Sizes → Served → Type 0
@@ -81,7 +79,7 @@ pub record IsRefusedAt (faces : List Face) (node : ℕ) (input : Input) (cause :
 -- what is noted of an effect: whether an operation was done, and the entry of what was served, where this message was taken
 pub record IsNoted (sizes : Sizes) (faces : List Face) (taken : Option Msg) (effect : Effect) (act : Act) : Type 0 where
   pub done_is : act.done ≡ is_some effect.done
-  pub entry_is : entry_list act.entry ≡ entries_after sizes faces taken effect.served
+  pub entry_is : option_to_list act.entry ≡ entries_after sizes (share_in sizes faces) taken effect.served
 
 -- one of the nodes did its row for an input of its own
 pub record IsAlone (sizes : Sizes) (faces faces' : List Face) (node : ℕ) (input : Input) (sends : List (ℕ × Msg)) (act : Act) : Type 0 where
@@ -96,17 +94,13 @@ pub record IsAlone (sizes : Sizes) (faces faces' : List Face) (node : ℕ) (inpu
 pub record AreFrontsMet (sizes : Sizes) (faces : List Face) (lane : Lanes) : Type 0 where
   pub meets : (src dst : ℕ) (class : Class) (m : Msg) (rest : List Msg) → lane src dst class ≡ m ∷ rest → meets_row sizes dst (share_in sizes faces dst) src m ≡ true
 
--- the Put of a load that was marked, elsewhere than at the line's home
-abbrev pub is_marked_put : Sizes → ℕ → Option Want → Msg → Bool
-is_marked_put sizes dst want m = is_kind APut (msg_content m) && not (dst == home_of sizes (msg_line m)) && is_marked (want_on sizes want (msg_line m))
-
 -- a load of another node is on the line of the message that was taken, and its words leave what their sender does as it was
-pub record IsRead (old : Face) (out : NodeOutcome) (taken : Option Msg) : Type 0 where
+pub record IsRead (old : Share) (out : NodeOutcome) (taken : Option Msg) : Type 0 where
   pub m : Msg
   pub taken_is : taken ≡ Some m
   pub line : out.line ≡ msg_line m
-  pub place : out.share.place ≡ old.share.place
-  pub want : out.share.want ≡ old.share.want
+  pub place : out.share.place ≡ old.place
+  pub want : out.share.want ≡ old.want
 
 -- an event takes the first message of its lane, which is a write-back or a hint, or isn't
 abbrev pub TakesFront : Lanes → Event → Bool → Type 0
@@ -125,7 +119,7 @@ pub record IsAct (charge : Charge) (sizes : Sizes) (faces faces' : List Face) (l
   pub takes_is : act.takes ≡ take_marks_of (taken_by (state_of sizes faces lane) event)
   pub front : TakesFront lane event act.departs
   pub marked_is : act.marked ≡ takes_marked sizes (state_of sizes faces lane) event (taken_by (state_of sizes faces lane) event)
-  pub reads : (reader : ℕ) (on : Words) → row.out.served ≡ For reader on → IsRead row.face row.out (taken_by (state_of sizes faces lane) event)
+  pub reads : (reader : ℕ) (on : Words) → row.out.served ≡ For reader on → IsRead row.face.share row.out (taken_by (state_of sizes faces lane) event)
 
 -- an event is refused for this cause
 abbrev pub IsRefusedIn : Charge → Sizes → List Face → Lanes → Event → Cause → Type 0

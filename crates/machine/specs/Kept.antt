@@ -7,11 +7,12 @@ use Rattle.op_model.specs.declared.operations.Op.{Op}
 use Rattle.op_model.specs.Shares.{Charge, Linked, Lanes, Share, State}
 use Rattle.op_model.specs.Run.Runs.{start_share, start, run_by}
 use Rattle.op_model.specs.Run.Bounds.{request_bound, reply_bound}
-use Rattle.op_model.specs.Run.Counts.{Moment, moments, all_counts, counted}
+use Rattle.op_model.specs.Run.Counts.{Moment, moments}
 use Rattle.lane_queues.specs.LaneStates.{LaneState}
 use Rattle.machine.specs.Faces.{Face}
 use Rattle.op_model.specs.Programs.{programs_of, IsProgramOf}
 use Rattle.msg_words.specs.SendList.{SendList}
+use Rattle.event_tally.specs.Tallies.{tally_of}
 
 -- the share of a node. There is no node past the last one, and its share is the first one for ever
 abbrev pub share_or : Sizes → ℕ → Option Face → Share
@@ -61,10 +62,6 @@ pub record AreLanesOf (sizes : Sizes) (lanes : LaneState) : Type 0 where
 
 abbrev pub moments_in : Sizes → List Face → List Event → List Moment
 moments_in sizes faces events = moments (charge_in faces) sizes (programs_of (programs_in faces)) (start sizes).state events
-
--- the numbers of all counts
-abbrev pub tally_of : Sizes → List Moment → List ℕ
-tally_of sizes moments = map (counted moments) (all_counts sizes)
 
 -- nothing is sent, and there is room for what an event may send
 abbrev pub no_sends : Sizes → SendList

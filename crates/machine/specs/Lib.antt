@@ -1,7 +1,6 @@
 pub mod Faces
 pub mod Machines
 pub mod Kept
-pub mod Marks
 pub mod Acts
 pub mod Journals
 pub mod Answers

@@ -7,18 +7,18 @@ ghost use Rattle.machine.specs.Kept.{AreNodes, AreLanesOf, charge_in, no_sends, 
 ghost use Rattle.magic_node.specs.Nodes.{FitsEvent, input_of};
 ghost use Rattle.op_model.specs.Run.Machines.{IsEventOf};
 ghost use Rattle.machine.specs.Faces.{face_of, dir_of};
-ghost use Rattle.machine.specs.Acts.{IsDoneAt, IsRefusedAt, IsAlone, IsAct, IsRefusedIn, AreFrontsMet, FillsLine, is_marked_put};
+ghost use Rattle.machine.specs.Acts.{IsDoneAt, IsRefusedAt, IsAlone, IsAct, IsRefusedIn, AreFrontsMet, FillsLine};
 
 use crate::entries::{entry_served, own_entry};
 use crate::nodes::{told_dir, told_sizes};
-use crate::tally::take_marks;
 use cpu_cache::Effect;
 use dir_header::Sharers;
+use event_tally::{is_marked_load, take_marks};
 use lane_queues::Lanes;
 use line_map::Machine;
 use magic_node::{LocalEvent, MagicNode};
 use msg_words::Sends;
-use op_model::{Cause, Class, Entry, Event, Msg, Want};
+use op_model::{Cause, Class, Entry, Event, Msg};
 
 /// What an event did: at which node, whether an operation of that node was done, and the entry of the operation that was served; of the message that it took, by which counts of messages it is counted, whether it was a write-back or a hint, and whether it was the Put of a marked load.
 #[derive(Clone, Copy)]
@@ -88,20 +88,6 @@ fn do_take<D: Sharers>(
     let done = node.take(src, msg, victim, out);
     told_dir(node);
     done
-}
-
-// Whether a message is the Put of a load that was marked, elsewhere than at the line's home.
-fn is_marked_load(cfg: &Machine, dst: u32, want: Option<Want>, msg: &Msg) -> bool
-    requires { IsMsgOf cfg.now msg.now }
-    ensures { result ≡ is_marked_put cfg.now dst want msg.now }
-{
-    let Msg::Put { line, .. } = *msg else {
-        return false;
-    };
-    let Some(want) = want else {
-        return false;
-    };
-    dst != cfg.home_of(line) && want.op.word / cfg.words() == line && want.marked
 }
 
 // A node's own event, as an event of the machine.

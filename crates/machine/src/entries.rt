@@ -1,16 +1,16 @@
 //! The entry of the operation that an event serves.
 
-ghost use Rattle.std.specs.Prelude.{◌≡◌, ◌<◌, List, map, length, None, Some, IfOk};
+ghost use Rattle.std.specs.Prelude.{◌≡◌, ◌<◌, ℕ, map, length, option_to_list, None, Some, IfOk};
 ghost use Rattle.op_model.specs.Operations.{entry_of};
 ghost use Rattle.op_model.specs.Run.Runs.{entry_for};
 ghost use Rattle.op_model.specs.Run.History.{is_completed, kept_of};
-ghost use Rattle.op_model.specs.Shares.{Lanes, want_on};
+ghost use Rattle.op_model.specs.Shares.{Lanes, Share, want_on};
 ghost use Rattle.line_map.specs.Sizes.{Sizes};
 ghost use Rattle.machine.specs.Kept.{share_in, state_of};
-ghost use Rattle.machine.specs.Faces.{Face, face_of};
-ghost use Rattle.machine.specs.Acts.{entry_list, entries_after, FillsLine};
+ghost use Rattle.machine.specs.Faces.{face_of};
+ghost use Rattle.machine.specs.Acts.{entries_after, FillsLine};
 
-use cpu_cache::Served;
+use cpu_cache::{Proc, Served};
 use dir_header::Sharers;
 use line_map::{Body, Machine};
 use magic_node::MagicNode;
@@ -37,6 +37,19 @@ fn entry_on(node: u32, index: u32, op: &Op, body: &Body, width: u32) -> Entry
     }
 }
 
+/// The entry of what a processor has begun on a line, of which it is sent these words. None where it has begun nothing there.
+pub fn wanted_entry(cfg: &Machine, node: u32, proc: &Proc, line: u32, body: &Body) -> Option<Entry>
+    requires { length body.now ≡ cfg.now.words }
+    ensures { option_to_list result ≡ entry_for node proc.now.place body.now (want_on cfg.now proc.now.want line) }
+{
+    let want = proc.want()?;
+    if want.op.word / cfg.words() != line {
+        return None;
+    }
+    let place = proc.done_count();
+    Some(entry_on(node, place, &want.op, body, cfg.words()))
+}
+
 // The entry of what a node has begun on a line, of which it is sent these words.
 fn entry_read<D: Sharers>(
     cfg: &Machine,
@@ -46,20 +59,15 @@ fn entry_read<D: Sharers>(
     body: &Body,
 ) -> Option<Entry>
     requires { length body.now ≡ cfg.now.words }
-    ensures { entry_list result ≡ entry_for node (share_in cfg.now (map face_of nodes.now.items) node).place body.now (want_on cfg.now (share_in cfg.now (map face_of nodes.now.items) node).want line) }
+    ensures { option_to_list result ≡ entry_for node (share_in cfg.now (map face_of nodes.now.items) node).place body.now (want_on cfg.now (share_in cfg.now (map face_of nodes.now.items) node).want line) }
 {
     let reader = nodes.get(node as usize)?;
-    let want = reader.proc().want()?;
-    if want.op.word / cfg.words() != line {
-        return None;
-    }
-    let place = reader.proc().done_count();
-    Some(entry_on(node, place, &want.op, body, cfg.words()))
+    wanted_entry(cfg, node, reader.proc(), line, body)
 }
 
 /// The entry of the operation that an event of a node by itself served, where it served one: the node's own.
-pub(crate) fn own_entry(served: &Served) -> Option<Entry>
-    ensures { (sizes : Sizes) (faces : List Face) → entry_list result ≡ entries_after sizes faces None served.now }
+pub fn own_entry(served: &Served) -> Option<Entry>
+    ensures { (sizes : Sizes) (share : ℕ → Share) → option_to_list result ≡ entries_after sizes share None served.now }
 {
     match served {
         Served::Own(entry) => Some(*entry),
@@ -75,7 +83,7 @@ pub(crate) fn entry_served<D: Sharers>(
     served: &Served,
 ) -> Option<Entry>
     requires { FillsLine cfg.now served.now }
-    ensures { entry_list result ≡ entries_after cfg.now (map face_of nodes.now.items) (Some msg.now) served.now }
+    ensures { option_to_list result ≡ entries_after cfg.now (share_in cfg.now (map face_of nodes.now.items)) (Some msg.now) served.now }
 {
     match served {
         Served::Nothing => None,

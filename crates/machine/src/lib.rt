@@ -13,8 +13,8 @@ mod reads;
 mod reported;
 mod run;
 mod sending;
-mod tally;
 mod viewed;
 
+pub use entries::{own_entry, wanted_entry};
 pub use machine::Machine1;
 pub use machine_face::ApplyError;

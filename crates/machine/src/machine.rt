@@ -36,7 +36,7 @@ use std::marker::Model;
 /// A machine whose nodes have made a list of events.
 #[derive(Drop)]
 pub struct Machine1<D: Sharers, Q: Lanes> {
-    run: Run<D, Q>,
+    pub(crate) run: Run<D, Q>,
 }
 
 impl<D: Sharers, Q: Lanes> Model for Machine1<D, Q> {

@@ -1,12 +1,13 @@
 //! What a report reads of the machine.
 
-ghost use Rattle.std.specs.Prelude.{◌≡◌, ◌<◌};
+ghost use Rattle.std.specs.Prelude.{◌≡◌, ◌<◌, refl};
 ghost use Rattle.dir_header.specs.HomeSides.{IsHome};
+ghost use Rattle.dir_report.specs.Machines.{heads_of};
 ghost use Rattle.machine.specs.Driven.{run_made};
 
 use crate::machine::Machine1;
 use dir_header::{Header, HomeSide, Sharers};
-use dir_report::{HomeCounts, Reported};
+use dir_report::{Headed, HomeCounts, Mode, Reported};
 use lane_queues::Lanes;
 use line_map::Machine;
 use op_model::{Entry, NoMemory, Program};
@@ -26,20 +27,15 @@ impl<D: Sharers, Q: Lanes> Machine1<D, Q> {
     }
 }
 
-impl<D: Sharers, Q: Lanes> Reported for Machine1<D, Q> {
-    ghost meaning = { run_made };
+impl<D: Sharers, Q: Lanes> Headed for Machine1<D, Q> {
+    ghost heads = { λ m. heads_of (run_made m) };
 
-    fn cfg(&self) -> Machine {
+    fn mode(&self) -> Mode {
+        Mode::Delayed
+    }
+
+    fn sizes(&self) -> Machine {
         self.told()
-    }
-
-    fn program(&self, node: u32) -> &Program {
-        Machine1::program(self, node)
-    }
-
-    fn history(&self, alloc: Global) -> Result<Vec<Entry>, NoMemory> {
-        let _cfg = self.told();
-        Machine1::history(self, alloc)
     }
 
     fn header(&self, g: u32) -> Header {
@@ -56,6 +52,25 @@ impl<D: Sharers, Q: Lanes> Reported for Machine1<D, Q> {
         let cfg = self.told();
         self.home_now(cfg.home_of(g)).dir().nth(g % cfg.lines(), i)
     }
+}
+
+impl<D: Sharers, Q: Lanes> Reported for Machine1<D, Q> {
+    ghost meaning = { run_made };
+
+    ghost same = { λ m. refl };
+
+    fn cfg(&self) -> Machine {
+        self.told()
+    }
+
+    fn program(&self, node: u32) -> &Program {
+        Machine1::program(self, node)
+    }
+
+    fn history(&self, alloc: Global) -> Result<Vec<Entry>, NoMemory> {
+        let _cfg = self.told();
+        Machine1::history(self, alloc)
+    }
 
     fn home_counts(&self, home: u32) -> HomeCounts {
         let links = self.told().links();
@@ -68,7 +83,7 @@ impl<D: Sharers, Q: Lanes> Reported for Machine1<D, Q> {
         }
     }
 
-    fn count(&self, i: u32) -> u64 {
-        Machine1::count(self, i)
+    fn counts(&self) -> &[u64; 27] {
+        &self.run.journal.counts
     }
 }

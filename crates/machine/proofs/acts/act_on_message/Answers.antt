@@ -4,8 +4,9 @@ use Rattle.std.proofs.lemmas.Result.{err_from_is_err_and}
 use Rattle.op_model.specs.Events.Node.{TakeFrom}
 use Rattle.op_model.specs.Shares.{Share}
 use Rattle.cpu_cache.specs.Processors.{ProcView}
+use Rattle.event_tally.specs.Marks.{is_marked_put}
 use Rattle.machine.specs.Kept.{charge_in, share_in}
-use Rattle.machine.specs.Acts.{IsRefusedAt, is_marked_put}
+use Rattle.machine.specs.Acts.{IsRefusedAt}
 use Rattle.machine.proofs.Lists.{rest_of, front-is}
 use Rattle.machine.proofs.Events.{take-act, take-refused}
 use Rattle.machine.proofs.Doing.{node-there}

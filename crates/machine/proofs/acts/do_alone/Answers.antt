@@ -19,7 +19,8 @@ local-done-requires-clause-fits g c =
     let faces = map face c.args.nodes.now.items in
     let old = c.index_mut-node.result.now in
     let there = node-there c.args.cfg (charge_in faces) face c.args.nodes.now.items c.args.node old old c.requires.nodes c.requires.below c.index_mut-node.ensures.value in
-    fits-event c.args.cfg (charge_in faces) faces c.args.node (face old) there (c.requires.nodes.each c.args.node (face old) there) c.args.event c.requires.line
+    let is = c.requires.nodes.each c.args.node (face old) there in
+    fits-event c.args.cfg old.sizes c.args.node old.number c.args.event is.same_sizes is.number_is c.requires.line
 
 pub local-done-requires-clause-space : goal.local-done-requires-clause-space
 local-done-requires-clause-space g c =
@@ -27,7 +28,7 @@ local-done-requires-clause-space g c =
     let faces = map face c.args.nodes.now.items in
     let old = c.index_mut-node.result.now in
     let there = node-there c.args.cfg (charge_in faces) face c.args.nodes.now.items c.args.node old old c.requires.nodes c.requires.below c.index_mut-node.ensures.value in
-    sends-room c.args.cfg (charge_in faces) faces c.args.node (face old) there (c.requires.nodes.each c.args.node (face old) there) c.args.out.now c.requires.nothing
+    sends-room c.args.cfg old.sizes c.args.out.now (c.requires.nodes.each c.args.node (face old) there).same_sizes c.requires.nothing
 
 pub returns-clause-ok : goal.returns-clause-ok
 returns-clause-ok g c =

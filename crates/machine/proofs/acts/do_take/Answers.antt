@@ -49,7 +49,7 @@ take-done-requires-clause-space g c =
     let old = c.index_mut-node.result.now in
     let there = node-there c.args.cfg (charge_in faces) face c.args.nodes.now.items c.args.dst old old c.requires.nodes c.requires.to c.index_mut-node.ensures.value in
     let is = c.requires.nodes.each c.args.dst (face old) there in
-    sends-room c.args.cfg (charge_in faces) faces c.args.dst (face old) there is c.args.out.now c.requires.nothing
+    sends-room c.args.cfg old.sizes c.args.out.now is.same_sizes c.requires.nothing
 
 pub returns-clause-ok : goal.returns-clause-ok
 returns-clause-ok g c =

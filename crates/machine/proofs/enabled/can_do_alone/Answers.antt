@@ -15,7 +15,7 @@ can_do-requires g c =
     let node = c.index.result.now in
     let there = node-there c.args.cfg (charge_in faces) face c.args.nodes.now.items c.args.node node node c.requires.nodes c.requires.below c.index.ensures in
     let is = c.requires.nodes.each c.args.node (face node) there in
-    fits-event c.args.cfg (charge_in faces) faces c.args.node (face node) there is c.args.event c.requires.line
+    fits-event c.args.cfg node.sizes c.args.node node.number c.args.event is.same_sizes is.number_is c.requires.line
 
 pub returns : goal.returns
 returns g c =

@@ -3,7 +3,7 @@ use Rattle.std.proofs.Common.{map, sym, ap, subst, ◌∙◌}
 use Rattle.std.specs.Prelude.{All}
 use Rattle.line_map.specs.Sizes.{Sizes}
 use Rattle.message_range.specs.Fitting.{IsSentOf}
-use Rattle.machine.specs.Marks.{marked_up, marks_of}
+use Rattle.event_tally.specs.Marks.{marked_up, marks_of}
 use Rattle.machine.proofs.Kept.{kept-same, cleared}
 use Rattle.op_model.specs.Run.Counts.{taken_by}
 use Rattle.machine.specs.Kept.{state_of}
