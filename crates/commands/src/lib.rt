@@ -10,6 +10,6 @@ mod texts;
 mod viewing;
 
 pub use journaled::journal_output;
-pub use replaying::ReplayError;
+pub use replaying::{ReplayError, stopped};
 pub use texts::{bits_text, command_text, command_text_over};
 pub use viewing::{ViewError, view_text};

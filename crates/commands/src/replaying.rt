@@ -17,7 +17,7 @@ pub enum ReplayError {
 }
 
 /// How a machine that refuses the step of this number stops the steps.
-pub(crate) fn stopped(step: u64, error: ApplyError) -> ReplayError
+pub fn stopped(step: u64, error: ApplyError) -> ReplayError
     ensures { result ≡ stopped_at step error }
 {
     match error {

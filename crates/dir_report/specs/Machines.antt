@@ -1,11 +1,24 @@
 -- What a report reads of a machine.
 use Rattle.std.specs.Prelude.{◌≡◌, ℕ, ◌-◌, List}
-use Rattle.op_model.specs.Shares.{pending_lines, held_links}
+use Rattle.line_map.specs.Sizes.{Sizes}
+use Rattle.op_model.specs.Shares.{State, pending_lines, held_links}
 use Rattle.op_model.specs.Run.Runs.{start}
 use Rattle.op_model.specs.Run.Counts.{Moment, moments}
 use Rattle.op_model.specs.Run.Machines.{MachineRun}
 use Rattle.dir_report.specs.declared.homes.HomeCounts.{HomeCounts}
+use Rattle.dir_report.specs.declared.mode.Mode.{Mode}
+use Rattle.dir_report.specs.declared.mode.Mode.TheVariants.{Delayed}
 use Rattle.dir_report.specs.Reports.{report_text}
+
+-- the headers of a state, with what their text depends on
+pub record Heads : Type 0 where
+  pub mode : Mode
+  pub sizes : Sizes
+  pub state : State
+
+-- those that a run of the delayed core has come to
+abbrev pub heads_of : MachineRun → Heads
+heads_of m = record { mode = Delayed; sizes = m.sizes; state = m.past.state }
 
 -- the pending lines of a home, the links that its lists hold, and the free links
 pub record IsHome (m : MachineRun) (home : ℕ) (counts : HomeCounts) : Type 0 where

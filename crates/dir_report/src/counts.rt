@@ -1,21 +1,21 @@
 //! What is counted in a run.
 
-ghost use Rattle.std.specs.Prelude.{◌≡◌, ◌++◌, OnOk};
+ghost use Rattle.std.specs.Prelude.{◌≡◌, ◌++◌, List, map, OnOk};
+ghost use Rattle.line_map.specs.Sizes.{Sizes};
+ghost use Rattle.op_model.specs.Run.Counts.{Moment, all_counts, counted};
 ghost use Rattle.dir_report.specs.Reports.{count_line, count_above, counts_text};
-ghost use Rattle.dir_report.specs.Machines.{moments_of};
 
-use crate::machine::Reported;
 use decimal_text::{put_bytes, put_decimal};
 use op_model::{Count, NoMemory};
 
-/// Appends the counts: that of all events, and each other one where it is above 0.
-pub(crate) fn put_counts<M: Reported>(out: &mut Vec<u8>, m: &M) -> Result<(), NoMemory>
-    ensures { OnOk result (out.new.items ≡ out.old.items ++ counts_text (M.meaning m.now).sizes (moments_of (M.meaning m.now))) }
+/// Appends the counts of a run, whose numbers are given in their order: that of all events, and each other one where it is above 0. Where memory is wanting, some of them may have been appended.
+pub fn put_counts(out: &mut Vec<u8>, counts: &[u64; 27]) -> Result<(), NoMemory>
+    ensures { (sizes : Sizes) (moments : List Moment) → counts.now ≡ map (counted moments) (all_counts sizes) → OnOk result (out.new.items ≡ out.old.items ++ counts_text sizes moments) }
 {
     put_bytes(out, b"counts\n")?;
-    put_count(out, Count::at(0).name(), m.count(0))?;
+    put_count(out, Count::at(0).name(), counts[0])?;
     for i in 1..Count::ALL.len() as u32 {
-        put_above(out, Count::at(i).name(), m.count(i))?;
+        put_above(out, Count::at(i).name(), counts[i as usize])?;
     }
     Ok(())
 }

@@ -9,6 +9,7 @@ use Rattle.op_model.specs.Shares.{first_header}
 use Rattle.op_model.specs.declared.events.Event.{Event}
 use Rattle.op_model.specs.Run.Runs.{Past, past_after, start, run_by}
 use Rattle.op_model.specs.Run.Machines.{MachineRun, IsRunning, IsApplied}
+use Rattle.dir_report.specs.declared.mode.Mode.TheVariants.{Delayed}
 use Rattle.dir_report.specs.Reports.{header_at, header_words, nodes_word}
 use Rattle.dir_report.proofs.Ranges.{flat_map-range_more}
 use Rattle.dir_report.proofs.Still.{header_first}
@@ -19,13 +20,13 @@ story line steps last text = record { line = line; steps = steps; last = last; t
 
 -- ---- a run without events
 
-first_printed : (sizes : Sizes) → header_words (first_header sizes) ≡ codes "- clean idle -"
+first_printed : (sizes : Sizes) → header_words Delayed (first_header sizes) ≡ codes "- clean idle -"
 first_printed sizes = ap (λ (nodes : List ℕ). codes "- clean idle " ++ nodes_word nodes) in_order-none
 
 pub first_told : (m : MachineRun) (line : ℕ) → m.events ≡ [] → first_story line ≡ story_of m line
 unfolding story_of
 first_told m line none_yet =
-    let at_first : printed_after m line 0 ≡ codes "- clean idle -" = ap (λ (h : Header). header_words h) (header_first m.sizes line) ∙ first_printed m.sizes in
+    let at_first : printed_after m line 0 ≡ codes "- clean idle -" = ap (λ (h : Header). header_words Delayed h) (header_first m.sizes line) ∙ first_printed m.sizes in
     rw none_yet (ap (λ (words : List ℕ). story line 0 words (codes "0 - clean idle -\n" ++ [])) (sym at_first))
 
 -- ---- one event more
@@ -46,7 +47,7 @@ same_printed m events past line k within =
     ap (λ (es : List Event). printed_in m.sizes line (run_by m.charge m.sizes m.programs (start m.sizes) es)) (take-append-le k m.events events within)
 
 -- what is printed at the end of a run
-last_printed : (m : MachineRun) (line : ℕ) → IsRunning m → printed_after m line (length m.events) ≡ header_words (header_at m.sizes m.past.state line)
+last_printed : (m : MachineRun) (line : ℕ) → IsRunning m → printed_after m line (length m.events) ≡ header_words Delayed (header_at m.sizes m.past.state line)
 last_printed m line running =
     ap (λ (es : List Event). printed_in m.sizes line (run_by m.charge m.sizes m.programs (start m.sizes) es)) (take_all (length m.events) m.events (omega arith))
     ∙ ap (printed_in m.sizes line) running.ran
@@ -74,21 +75,21 @@ longer_changes m event past line now is =
     ∙ ap (λ (zs : List ℕ). flat_map (change_at m line) (range_with_len 0 n) ++ zs) last)
     ∙ sym (append_assoc (codes "0 - clean idle -\n") (flat_map (change_at m line) (range_with_len 0 n)) (changed (suc n) (printed_after m line n) now))
 
-longer_told : (m : MachineRun) (event : Event) (past : Past) (line : ℕ) → IsRunning (longer m event past) → noted (story_of m line) (header_words (header_at m.sizes past.state line)) ≡ story_of (longer m event past) line
+longer_told : (m : MachineRun) (event : Event) (past : Past) (line : ℕ) → IsRunning (longer m event past) → noted (story_of m line) (header_words Delayed (header_at m.sizes past.state line)) ≡ story_of (longer m event past) line
 unfolding story_of
 longer_told m event past line running =
-    let now = header_words (header_at m.sizes past.state line) in
+    let now = header_words Delayed (header_at m.sizes past.state line) in
     let count : suc (length m.events) ≡ length (m.events ++ event ∷ []) = omega (arith, length_push m.events event) in
     let last = last_printed (longer m event past) line running in
     let printed = ap (λ (k : ℕ). printed_after (longer m event past) line k) count ∙ last in
     same_story line _ _ _ _ _ _ count (sym last) (sym (longer_changes m event past line now printed))
 
-event_told : (before after : MachineRun) (event : Event) (line : ℕ) → IsApplied before event after → IsRunning after → noted (story_of before line) (header_words (header_at after.sizes after.past.state line)) ≡ story_of after line
+event_told : (before after : MachineRun) (event : Event) (line : ℕ) → IsApplied before event after → IsRunning after → noted (story_of before line) (header_words Delayed (header_at after.sizes after.past.state line)) ≡ story_of after line
 event_told before after event line applied running =
-    subst (λ (m : MachineRun). IsRunning m → noted (story_of before line) (header_words (header_at m.sizes m.past.state line)) ≡ story_of m line) (sym applied.2)
+    subst (λ (m : MachineRun). IsRunning m → noted (story_of before line) (header_words Delayed (header_at m.sizes m.past.state line)) ≡ story_of m line) (sym applied.2)
     (longer_told before event (past_after before.sizes before.past applied.0) line) running
 
 -- a story that was noted after an event is that of the longer run, where it was that of the run before
-pub still_told : (new old : StoryView) (before after : MachineRun) (event : Event) → new ≡ noted old (header_words (header_at after.sizes after.past.state old.line)) → old ≡ story_of before old.line → IsApplied before event after → IsRunning after → new ≡ story_of after old.line
+pub still_told : (new old : StoryView) (before after : MachineRun) (event : Event) → new ≡ noted old (header_words Delayed (header_at after.sizes after.past.state old.line)) → old ≡ story_of before old.line → IsApplied before event after → IsRunning after → new ≡ story_of after old.line
 still_told new old before after event is was applied running =
-    is ∙ ap (λ (story : StoryView). noted story (header_words (header_at after.sizes after.past.state old.line))) was ∙ event_told before after event old.line applied running
+    is ∙ ap (λ (story : StoryView). noted story (header_words Delayed (header_at after.sizes after.past.state old.line))) was ∙ event_told before after event old.line applied running

@@ -14,6 +14,7 @@ use Rattle.op_model.specs.Shares.{Share, State, copy_of}
 use Rattle.op_model.specs.Run.Schedules.{Lane, all_nodes, lanes_in_order}
 use Rattle.op_model.specs.Run.Machines.{MachineRun}
 pub use Rattle.dir_report.specs.Reports.{nodes_word as numbers_word}
+use Rattle.dir_report.specs.declared.mode.Mode.TheVariants.{Delayed}
 use Rattle.dir_report.specs.Reports.{header_at, lines_text}
 use Rattle.time_view.specs.Messages.{message_words}
 
@@ -102,6 +103,6 @@ state_text m =
     ++ nodes_text m.sizes m.past.state
     ++ copies_text m.sizes m.past.state
     ++ memory_text m.sizes m.past.state
-    ++ lines_text (codes "headers ") m.sizes m.past.state
+    ++ lines_text Delayed (codes "headers ") m.sizes m.past.state
     ++ lanes_text m.sizes m.past.state
     ++ codes "end\n"

@@ -6,6 +6,7 @@ use Rattle.line_map.specs.Sizes.{Sizes}
 use Rattle.decimal_text.specs.Text.{named}
 use Rattle.op_model.specs.Run.Runs.{Past, start, run_by}
 use Rattle.op_model.specs.Run.Machines.{MachineRun}
+use Rattle.dir_report.specs.declared.mode.Mode.TheVariants.{Delayed}
 use Rattle.dir_report.specs.Reports.{header_at, header_words}
 
 -- ---- a story by itself
@@ -35,7 +36,7 @@ text_of story = codes "flash story 1\n" ++ named (codes "line ") story.line ++ s
 
 abbrev pub printed_in : Sizes → ℕ → Option Past → List ℕ
 printed_in sizes line None = []
-printed_in sizes line (Some past) = header_words (header_at sizes past.state line)
+printed_in sizes line (Some past) = header_words Delayed (header_at sizes past.state line)
 
 -- what the header of a line prints after the first k events
 abbrev pub printed_after : MachineRun → ℕ → ℕ → List ℕ

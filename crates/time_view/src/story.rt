@@ -4,6 +4,7 @@ ghost use Rattle.std.specs.Prelude.{◌≡◌, ◌+◌, ◌<◌, [], length, IfO
 ghost use Rattle.line_map.specs.Sizes.{all_lines};
 ghost use Rattle.op_model.specs.declared.events.Event.{Event};
 ghost use Rattle.op_model.specs.Run.Machines.{MachineRun, IsApplied};
+ghost use Rattle.dir_report.specs.declared.mode.Mode.TheVariants.{Delayed};
 ghost use Rattle.dir_report.specs.Reports.{header_at, header_words};
 ghost use Rattle.time_view.specs.Stories.{changed, first_story, noted, text_of, story_of, story_text};
 
@@ -91,7 +92,7 @@ impl Story {
     pub fn note<M: Viewed>(&mut self, m: &M) -> Result<(), NoMemory>
         requires line { self.old.line < all_lines (M.meaning m.now).sizes }
         requires next { length (M.meaning m.now).events ≡ self.old.steps + 1 }
-        ensures noted { OnOk result (self.new ≡ noted self.old (header_words (header_at (M.meaning m.now).sizes (M.meaning m.now).past.state self.old.line))) }
+        ensures noted { OnOk result (self.new ≡ noted self.old (header_words Delayed (header_at (M.meaning m.now).sizes (M.meaning m.now).past.state self.old.line))) }
         ensures err { OnErr result (self.new ≡ self.old) }
 
         // What was the story of a run is then the story of the run with its next event.

@@ -1,0 +1,4 @@
+pub mod Moments
+pub mod Reports
+pub mod Machines
+pub mod Orders
