@@ -16,3 +16,5 @@ pub mod Issues
 pub mod Evicts
 pub mod Operations
 pub mod Serials
+pub mod Promised
+pub mod Places

@@ -50,6 +50,16 @@ module _ (trace : Trace) where
       go (Ok done) later e = later (past_after sizes past done) e f
       go (Err cause) later e = absurd (let n : ◌≡◌ {A = Option Past} None (Some middle) = e in cc)
 
+  -- a run that goes on from the end of its first events
+  pub run-rest : (past middle end : Past) (first rest : List Event) → ran past first ≡ Some middle → ran past (first ++ rest) ≡ Some end → ran middle rest ≡ Some end
+  run-rest past middle end [] rest e f = let same : past ≡ middle = cc in ap (λ p. ran p rest) (sym same) ∙ f
+  run-rest past middle end (event ∷ events) rest e f = go (effect sizes (program trace) past.state past.ages event) (λ next. run-rest next middle end events rest) e f
+    where
+      go : (r : Result AgedDone Cause) → ((next : Past) → ran next events ≡ Some middle → ran next (events ++ rest) ≡ Some end → ran middle rest ≡ Some end) →
+          and_then r (λ done. ran (past_after sizes past done) events) ≡ Some middle → and_then r (λ done. ran (past_after sizes past done) (events ++ rest)) ≡ Some end → ran middle rest ≡ Some end
+      go (Ok done) later e f = later (past_after sizes past done) e f
+      go (Err cause) later e f = absurd (let n : ◌≡◌ {A = Option Past} None (Some middle) = e in cc)
+
   pub reached-on : (past end : Past) (events : List Event) → IsReached trace past → ran past events ≡ Some end → IsReached trace end
   reached-on past end events reached goes = (reached.0 ++ events, run-on (start sizes) past end reached.0 events reached.1 goes)
 
@@ -70,7 +80,7 @@ module _ (trace : Trace) where
       later (inl less) = inl (omega arith)
       later (inr none) = inr none
 
-  ran-first : (past end : Past) (event : Event) (events : List Event) → ran past (event ∷ events) ≡ Some end → (done : AgedDone) × (effect sizes (program trace) past.state past.ages event ≡ Ok done) × (ran (past_after sizes past done) events ≡ Some end)
+  pub ran-first : (past end : Past) (event : Event) (events : List Event) → ran past (event ∷ events) ≡ Some end → (done : AgedDone) × (effect sizes (program trace) past.state past.ages event ≡ Ok done) × (ran (past_after sizes past done) events ≡ Some end)
   ran-first past end event events goes = go (effect sizes (program trace) past.state past.ages event) refl goes
     where
       go : (r : Result AgedDone Cause) → effect sizes (program trace) past.state past.ages event ≡ r → and_then r (λ done. ran (past_after sizes past done) events) ≡ Some end →

@@ -18,6 +18,7 @@ ghost use Rattle.schedule_laws.specs.Ends.{AreAllDone, IsInOrder};
 ghost use Rattle.eager_model.specs.Laws.{CompletesWithin, IsSerial};
 ghost use Rattle.eager_model.specs.Runs.{Past, run};
 ghost use Rattle.eager_schedule.specs.Courses.{SerialEnd};
+ghost use Rattle.eager_schedule.specs.Promises.{KeepsPromise};
 
 /// A lane of requests holds at most P + 1 + E messages and one of replies at most P + 1, where P lines of a home may be pending and E is the gate on evictions.
 pub fn every_lane()
@@ -41,4 +42,9 @@ pub fn every_serial()
     ensures ends { (trace : Trace) → AreSizes trace.sizes → IsOfMachine trace → IsInOrder trace → SerialEnd trace ((2 * trace.sizes.nodes + 8) * length trace.ops) }
     ensures each { (trace : Trace) (events : List Event) (past : Past) → AreSizes trace.sizes → IsOfMachine trace → IsInOrder trace → IsSerial trace events past → AreAllDone trace past.state × IsAtRest past.state × (length events ≤ (2 * trace.sizes.nodes + 8) * length trace.ops) }
     ensures unique { (trace : Trace) (end other : Past) (events more : List Event) → IsSerial trace events end → IsSerial trace more other → events ≡ more }
+{}
+
+/// All of this holds of every state that a run of a trace comes to, for a trace of its machine whose operations each have their place as their index; and each of its lines keeps one history.
+pub fn every_run()
+    ensures keeps { (trace : Trace) (events : List Event) (past : Past) → AreSizes trace.sizes → IsOfMachine trace → IsInOrder trace → run trace events ≡ Some past → KeepsPromise trace past }
 {}
