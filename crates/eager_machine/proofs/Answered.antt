@@ -1,6 +1,6 @@
 -- What a node's call answers, as what one of the nodes of the machine did.
 use Rattle.std.proofs.Common.{◌≡◌, ℕ, ◌+◌, ◌<◌, List, ◌++◌, length, set, refl, ap, arith, sym, subst, ◌∙◌, Option, Some, Result, Ok, Err}
-use Rattle.std.specs.Prelude.{slice_get, IfOk}
+use Rattle.std.specs.Prelude.{slice_get, is_some, IfOk}
 use Rattle.line_map.specs.Sizes.{Sizes, AreSizes}
 use Rattle.op_model.specs.declared.messages.Msg.{Msg}
 use Rattle.op_model.specs.Events.Node.{Input, TakeFrom}
@@ -14,28 +14,21 @@ use Rattle.msg_words.specs.SendList.{SendList}
 use Rattle.node_share.specs.Parts.{HasRoom}
 use Rattle.magic_node.specs.declared.acts.LocalEvent.{LocalEvent}
 use Rattle.magic_node.specs.Nodes.{FitsEvent, HasSent}
+use Rattle.machine.specs.Acts.{FillsLine}
 use Rattle.machine.specs.Kept.{no_sends}
+use Rattle.machine.proofs.Doing.{done-some, served-fills}
 use Rattle.eager_part.specs.Part.{IsEagerPart}
 use Rattle.eager_part.proofs.Sends.{eager_sends}
 use Rattle.eager_home.specs.Aged.{AgedActs}
 use Rattle.eager_home.specs.Views.{EagerView, ages_in, RiseWithin}
 use Rattle.eager_home.specs.declared.aging.AgedEffect.{AgedEffect}
-use Rattle.eager_machine.specs.Acts.{AreSent, FillsLine, IsDoneAt, RiseFrom}
+use Rattle.eager_machine.specs.Acts.{AreSent, IsDoneAt, RiseFrom}
 use Rattle.eager_machine.specs.Kept.{IsNodeAt}
+use Rattle.eager_machine.proofs.Ends.{done-within}
 
 pub if-both : {A E : Type 0} (r : Result A E) (P Q R : A → Type 0) → ((a : A) → P a → Q a → R a) → IfOk r P → IfOk r Q → IfOk r R
 if-both (Ok a) P Q R both p q = both a p q
 if-both (Err e) P Q R both p q = tt
-
-pub fits-event : (sizes : Sizes) (node : ℕ) (old : EagerView) (event : LocalEvent) → IsNodeAt sizes node old → FitsEvent sizes node event → FitsEvent old.sizes old.number event
-fits-event sizes node old event is fits = subst (λ (s : Sizes). FitsEvent s old.number event) (sym is.same_sizes) (subst (λ n. FitsEvent sizes n event) (sym is.number_is) fits)
-
-pub sends-room : (sizes : Sizes) (node : ℕ) (old : EagerView) (out : SendList) → IsNodeAt sizes node old → out ≡ no_sends sizes → HasRoom out (old.sizes.nodes + 1)
-sends-room sizes node old out is none =
-    let list : length out.list ≡ 0 = ap (λ (o : SendList). length o.list) none in
-    let room : out.room ≡ sizes.nodes + 1 = ap (λ (o : SendList). o.room) none in
-    let nodes : old.sizes.nodes ≡ sizes.nodes = ap (λ (s : Sizes). s.nodes) is.same_sizes in
-    omega (arith, list, room, nodes)
 
 -- all that is sent was sent now
 pub sent-now : (sizes : Sizes) (node : ℕ) (old : EagerView) (out out' : SendList) → IsNodeAt sizes node old → out ≡ no_sends sizes → HasSent (IsSentOf old.sizes) out out' → AreSent sizes out'.list
@@ -43,10 +36,10 @@ sent-now sizes node old out out' is none has =
     let list : out'.list ≡ has.sends = ap (λ (o : SendList). o.list) has.are ∙ ap (λ (o : SendList). o.list ++ has.sends) none in
     subst (AreSent sizes) (sym list) (subst (λ s. AreSent s has.sends) is.same_sizes has.each)
 
-pub done-at : (sizes : Sizes) (nodes : List EagerView) (node : ℕ) (old new : EagerView) (input : Input) (age : ℕ) (brought : Words) (out out' : SendList) (did : AgedEffect) → slice_get nodes node ≡ Some old → out ≡ no_sends sizes →
+pub done-at : (sizes : Sizes) (nodes : List EagerView) (node : ℕ) (old new : EagerView) (input : Input) (age : ℕ) (brought : Words) (out out' : SendList) (did : AgedEffect) → slice_get nodes node ≡ Some old → IsEagerPart old.sizes old.number old.program old.share → out ≡ no_sends sizes →
     new ≡ record old { share = new.share; copy_ages = new.copy_ages; memory_ages = new.memory_ages } → AgedActs old.sizes old.number old.program brought old.share (ages_in old) input age new.share (ages_in new) out out' did → RiseFrom age old new did →
     IsDoneAt nodes (set nodes node new) node input age out'.list did
-done-at sizes nodes node old new input age brought out out' did there none same acts rises = record {
+done-at sizes nodes node old new input age brought out out' did there own none same acts rises = record {
   old = old;
   new = new;
   there = there;
@@ -56,6 +49,7 @@ done-at sizes nodes node old new input age brought out out' did there none same 
   out = out;
   out' = out';
   acts = acts;
+  is_done = ap (λ (e : Effect). is_some e.done) acts.acts.told ∙ done-some old.number old.share.place _ old.program acts.acts.outcome.done (done-within old.sizes old.number old.program old.share input acts.acts.outcome own acts.acts.is);
   nothing = ap (λ (o : SendList). o.list) none;
   sends_are = refl;
   rises = rises;
@@ -68,7 +62,7 @@ rise-more bound new did up = record { ages = λ line. let y = up.ages line in (l
 pub fills-line : (sizes : Sizes) (node : ℕ) (old : EagerView) (src : ℕ) (m : Msg) (victim : Option ℕ) (age : ℕ) (brought : Words) (new : EagerView) (out out' : SendList) (did : AgedEffect) → IsNodeAt sizes node old → AreSizes sizes → node < sizes.nodes → src < sizes.nodes → IsMsgOf sizes m →
     IsEagerPart old.sizes old.number old.program old.share → IsShareOf old.sizes old.share → AgedActs old.sizes old.number old.program brought old.share (ages_in old) (TakeFrom src m victim) age new.share (ages_in new) out out' did → FillsLine sizes did.effect.served
 fills-line sizes node old src m victim age brought new out out' did is are below from of own fits acts =
-    subst (FillsLine sizes) (sym (ap (λ (e : Effect). e.served) acts.acts.told)) (go acts.acts.outcome.served served)
+    subst (FillsLine sizes) (sym (ap (λ (e : Effect). e.served) acts.acts.told)) (served-fills sizes old.number old.share.place acts.acts.outcome.served served)
   where
     served : IsServedOf sizes acts.acts.outcome.served
     served =
@@ -78,8 +72,3 @@ fills-line sizes node old src m victim age brought new out out' did is are below
         let input : IsInputOf sizes (TakeFrom src m victim) = (from, of) in
         subst (λ s. IsServedOf s acts.acts.outcome.served) is.same_sizes
         (eager_sends old.sizes old.number old.program old.share (TakeFrom src m victim) acts.acts.outcome (subst AreSizes p are) here (subst (λ s. AreOnWords s old.program) p words) own fits (subst (λ s. IsInputOf s (TakeFrom src m victim)) p input) acts.acts.is).served
-
-    go : (s : Service) → IsServedOf sizes s → FillsLine sizes (served_of old.number old.share.place s)
-    go NoService fills = tt
-    go (Own op on) fills = tt
-    go (For reader on) fills = fills

@@ -1,6 +1,6 @@
 -- What one of the nodes did with an input, as an event of the machine at that node.
 use Rattle.std.proofs.Common.{◌≡◌, ℕ, ◌+◌, ◌≤◌, ◌<◌, Bool, true, false, cond, ◌==◌, List, ◌++◌, refl, ap, arith, sym, subst, ◌∙◌, Option, Ok}
-use Rattle.std.proofs.lemmas.Bool.Decides.{nat_tests}
+use Rattle.std.specs.Prelude.{option_to_list}
 use Rattle.line_map.specs.Sizes.{Sizes}
 use Rattle.op_model.specs.declared.events.Cause.{Cause}
 use Rattle.op_model.specs.declared.events.Event.{Event}
@@ -10,24 +10,27 @@ use Rattle.op_model.specs.Events.Step.{Off, Programs, put_at}
 use Rattle.op_model.specs.Lines.{Service, NoService, Own, For}
 use Rattle.op_model.specs.Messages.{msg_line}
 use Rattle.op_model.specs.Programs.{programs_of}
+use Rattle.op_model.specs.Run.Counts.{taken_by, takes_marked}
 use Rattle.op_model.specs.Run.Runs.{entries_of, entry_for}
 use Rattle.op_model.specs.Shares.{Share, want_on}
 use Rattle.cpu_cache.specs.Effects.{served_of}
 use Rattle.cpu_cache.specs.declared.effects.Effect.{Effect}
 use Rattle.msg_words.specs.SendList.{SendList}
-use Rattle.machine.specs.Acts.{off_of}
+use Rattle.event_tally.specs.Marks.{take_marks_of}
+use Rattle.machine.specs.Acts.{off_of, entries_after}
+use Rattle.machine.proofs.ServedAfter.{served-after}
 use Rattle.eager_model.specs.Node.{Aged, aged, local, put_ages}
 use Rattle.eager_model.specs.Runs.{aged_entries}
 use Rattle.eager_model.specs.Step.{AgedDone, Call, answer, effect}
 use Rattle.eager_home.specs.Views.{EagerView, ages_in}
 use Rattle.eager_home.specs.declared.aging.AgedEffect.{AgedEffect}
 use Rattle.eager_machine.specs.declared.acts.Act.{Act}
-use Rattle.eager_machine.specs.Acts.{at_age, entries_after, AreSent, IsAct, IsDoneAt, IsNoted, IsRefusedAt, IsRefusedIn}
-use Rattle.eager_machine.specs.Journals.{entry_list, served_in}
+use Rattle.eager_machine.specs.Acts.{at_age, AreSent, IsAct, IsDoneAt, IsNoted, IsRefusedAt, IsRefusedIn}
+use Rattle.eager_machine.specs.Journals.{served_in}
 use Rattle.eager_machine.specs.Kept.{share_or, share_in, ages_or, node_ages, state_of, ages_of, programs_in, AreNodes, AreYoung}
-use Rattle.eager_machine.specs.Lanes.{UnderWay, AreFresh}
+use Rattle.eager_machine.specs.Lanes.{UnderWay, messages_of, AreFresh}
 use Rattle.eager_machine.proofs.NodeLists.{local-at, aged-at, share-set, ages-set, nodes-set, programs-set, young-set, young-more}
-use Rattle.eager_machine.proofs.Quiet.{IsRead, read, taken_in}
+use Rattle.eager_machine.proofs.Quiet.{read, taken_in}
 
 module _ (sizes : Sizes) (nodes nodes' : List EagerView) (node : ℕ) (input : Input) (age : ℕ) (sends : List (ℕ × Msg)) (did : AgedEffect) (are : AreNodes sizes nodes) (row : IsDoneAt nodes nodes' node input age sends did) where
   abbrev out : NodeOutcome
@@ -82,23 +85,8 @@ module _ (sizes : Sizes) (nodes nodes' : List EagerView) (node : ℕ) (input : I
       let up = row.rises bound (young node row.old row.there) of in
       (subst (AreYoung (bound + 1)) (sym row.after) (young-set sizes nodes node row.old row.new row.there (bound + 1) (young-more bound (bound + 1) nodes (omega arith) young) up.ages), up.given)
 
-  -- a node that is sent words stands where it stood, and wants what it wanted
   share-at : (q : ℕ) → share_in sizes nodes' q ≡ cond (q == node) out.share (share_in sizes nodes q)
   share-at q = (λ i. sym shares-after i q) ∙ ap (λ (o : NodeOutcome). cond (q == node) o.share (share_in sizes nodes q)) out-is
-
-  spot : {taken : Option Msg} → IsRead (share_in sizes nodes node) out taken → (q : ℕ) → (share_in sizes nodes' q).place ≡ (share_in sizes nodes q).place
-  spot words q = ap (λ (s : Share). s.place) (share-at q) ∙ at-node (q == node) refl
-    where
-      at-node : (b : Bool) → (q == node) ≡ b → (cond b out.share (share_in sizes nodes q)).place ≡ (share_in sizes nodes q).place
-      at-node true test = let here : node ≡ q = grind (arith, nat_tests) in words.place ∙ ap (λ n. (share_in sizes nodes n).place) here
-      at-node false test = refl
-
-  wish : {taken : Option Msg} → IsRead (share_in sizes nodes node) out taken → (q : ℕ) → (share_in sizes nodes' q).want ≡ (share_in sizes nodes q).want
-  wish words q = ap (λ (s : Share). s.want) (share-at q) ∙ at-node (q == node) refl
-    where
-      at-node : (b : Bool) → (q == node) ≡ b → (cond b out.share (share_in sizes nodes q)).want ≡ (share_in sizes nodes q).want
-      at-node true test = let here : node ≡ q = grind (arith, nat_tests) in words.want ∙ ap (λ n. (share_in sizes nodes n).want) here
-      at-node false test = refl
 
   served-is : did.effect.served ≡ served_of node (share_in sizes nodes node).place out.served
   served-is =
@@ -107,33 +95,25 @@ module _ (sizes : Sizes) (nodes nodes' : List EagerView) (node : ℕ) (input : I
       ap (λ (e : Effect). e.served) row.acts.acts.told ∙ (λ i. served_of (number i) (here i) out.served)
 
   -- what was served, read after the event
-  served-after : (way : UnderWay) → entries_after sizes nodes' (taken_in input) did.effect.served ≡ entries_of sizes (state_of sizes nodes way) node out.line out.served
-  served-after way = ap (entries_after sizes nodes' (taken_in input)) served-is ∙ go out.served refl
-    where
-      go : (s : Service) → out.served ≡ s → entries_after sizes nodes' (taken_in input) (served_of node (share_in sizes nodes node).place s) ≡ entries_of sizes (state_of sizes nodes way) node out.line s
-      go NoService at = refl
-      go (Own op on) at = refl
-      go (For reader on) at =
-          let words = read sizes node (programs node) (share_in sizes nodes node) input out does-here reader on at in
-          let same = spot words reader in
-          let wants = wish words reader in
-          ap (λ t. entries_after sizes nodes' t (served_of node (share_in sizes nodes node).place (For reader on))) words.taken_is
-          ∙ (λ i. entry_for reader (same i) on (want_on sizes (wants i) (msg_line words.m)))
-          ∙ ap (λ l. entry_for reader (share_in sizes nodes reader).place on (want_on sizes (share_in sizes nodes reader).want l)) (sym words.line)
+  entries-are : (way : UnderWay) → entries_after sizes (share_in sizes nodes') (taken_in input) did.effect.served ≡ entries_of sizes (state_of sizes nodes way) node out.line out.served
+  entries-are way =
+      ap (entries_after sizes (share_in sizes nodes') (taken_in input)) served-is
+      ∙ served-after sizes (share_in sizes nodes) (share_in sizes nodes') node out (taken_in input) share-at (messages_of way) (read sizes node (programs node) (share_in sizes nodes node) input out does-here)
 
   abbrev made : Off → AgedDone
   made off = record { node = node; off = off; did = did_here }
 
-  noted-after : (way : UnderWay) (off : Off) (act : Act) → IsNoted sizes nodes' (taken_in input) did act → aged_entries sizes (state_of sizes nodes way) (made off) ≡ served_in (entry_list act.entry)
+  noted-after : (way : UnderWay) (off : Off) (act : Act) → IsNoted sizes nodes' (taken_in input) did act → aged_entries sizes (state_of sizes nodes way) (made off) ≡ served_in (option_to_list act.entry)
   noted-after way off act noted =
       let served = sym (row.acts.served ∙ sym (ap (λ (d : Aged). d.served) did-is)) in
       (λ i. at_age (served i) (entries_of sizes (state_of sizes nodes way) node (out-is i).line (out-is i).served))
-      ∙ ap (at_age did.served) (sym (served-after way)) ∙ sym noted.entry_is
+      ∙ ap (at_age did.served) (sym (entries-are way)) ∙ sym noted.entry_is
 
   pub act-by : (way : UnderWay) (event : Event) (off : Off) (act : Act) →
       effect sizes programs (state_of sizes nodes way) (ages_of nodes way) event ≡ answer sizes programs (state_of sizes nodes way) (ages_of nodes way) (record { node = node; input = input; age = age; off = off }) →
-      off ≡ off_of event → node < sizes.nodes → act.node ≡ node → IsNoted sizes nodes' (taken_in input) did act → AreSent sizes sends → ((bound : ℕ) → AreFresh bound way → age ≤ bound) → IsAct sizes nodes nodes' way event sends act
-  act-by way event off act is off_is below node_is noted sent of = record {
+      off ≡ off_of event → node < sizes.nodes → act.node ≡ node → IsNoted sizes nodes' (taken_in input) did act → act.takes ≡ take_marks_of (taken_by (state_of sizes nodes way) event) →
+      act.marked ≡ takes_marked sizes (state_of sizes nodes way) event (taken_by (state_of sizes nodes way) event) → AreSent sizes sends → ((bound : ℕ) → AreFresh bound way → age ≤ bound) → IsAct sizes nodes nodes' way event sends act
+  act-by way event off act is off_is below node_is noted takes marked sent of = record {
     done = made off;
     does = is ∙ ap (map_ok (λ o. record { node = node; off = off; did = aged sizes node (share_in sizes nodes node) (node_ages nodes node) input age o })) does-here;
     node_is = sym node_is;
@@ -147,6 +127,7 @@ module _ (sizes : Sizes) (nodes nodes' : List EagerView) (node : ℕ) (input : I
     shares = shares-after;
     ages = ages-after;
     noted = noted-after way off act noted;
+    tells = record { takes_is = takes; done_is = noted.done_is ∙ row.is_done ∙ sym (ap (λ (o : NodeOutcome). o.done) out-is); sends_are = sym sends-are; marked_is = marked };
     rises = λ bound young fresh. let up = rises-after bound young (of bound fresh) in (up.0, subst (λ n. n ≤ bound) (sym noted.given_is) up.1);
   }
 

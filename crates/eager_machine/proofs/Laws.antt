@@ -11,7 +11,7 @@ use Rattle.op_model.specs.MessageWords.{IsMsgOf}
 use Rattle.op_model.specs.Programs.{programs_of, IsProgramOf}
 use Rattle.node_range.specs.Range.{IsOfMachine}
 use Rattle.machine.proofs.Programs.{trace_by, program-of, of-machine}
-use Rattle.machine.proofs.Laws.{some-words}
+use Rattle.machine.proofs.Laws.{some-words, programs-each}
 use Rattle.eager_model.specs.Runs.{AgedEntry, Past, run, run_by, start}
 use Rattle.eager_part.proofs.LaneRuns.{messages_of_machine}
 use Rattle.eager_history.proofs.Runs.{sound-run}
@@ -22,11 +22,7 @@ use Rattle.eager_machine.specs.Kept.{past_of, programs_in, AreNodes, IsKept}
 use Rattle.eager_machine.specs.Lanes.{UnderWay}
 
 pub programs-are : (sizes : Sizes) (nodes : List EagerView) → AreNodes sizes nodes → (node : ℕ) (program : List Op) → slice_get (programs_in nodes) node ≡ Some program → IsProgramOf sizes node program
-programs-are sizes nodes are node program is = go (slice_get nodes node) refl (sym (slice_get-map (λ (v : EagerView). v.program) nodes node) ∙ is)
-  where
-    go : (o : Option EagerView) → slice_get nodes node ≡ o → option_map (λ (v : EagerView). v.program) o ≡ Some program → IsProgramOf sizes node program
-    go None at e = cc
-    go (Some view) at e = let same : view.program ≡ program = cc in subst (IsProgramOf sizes node) same (are.each node view at).program
+programs-are sizes nodes are = programs-each (λ (v : EagerView). v.program) sizes nodes (λ node view is. (are.each node view is).program)
 
 -- a run of the programs is one of their trace
 pub traced : (sizes : Sizes) (nodes : List EagerView) → AreNodes sizes nodes → (events : List Event) (past : Past) → run_by sizes (programs_of (programs_in nodes)) (start sizes) events ≡ Some past → run (trace_by sizes (programs_in nodes)) events ≡ Some past

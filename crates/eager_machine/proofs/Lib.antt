@@ -1,9 +1,10 @@
-pub mod ServedFor
 pub mod Departures
 pub mod Queues
+pub mod Marked
 pub mod Runs
 pub mod Ways
 pub mod Quiet
+pub mod Ends
 pub mod NodeLists
 pub mod After
 pub mod Answered
@@ -12,5 +13,9 @@ pub mod Takes
 pub mod Events
 pub mod Laws
 pub mod Applied
+pub mod Promised
 pub mod Views
+pub mod Serials
+pub mod ProcessorEvents
+pub mod Seen
 pub mod Starts

@@ -1,9 +1,8 @@
 -- A list of queues, one a lane: what reading or changing one of them is for the lanes.
-use Rattle.std.proofs.Common.{◌≡◌, ◌≢◌, ℕ, ◌<◌, Bool, true, false, cond, ◌==◌, ◌&&◌, refl, ap, sym, subst, ◌∙◌, arith, List, [], ◌∷◌, length, set, get_or, ◌++◌, Result, Ok, Err, OnOk, OnErr}
-use Rattle.std.specs.Prelude.{⊤, nat_lt}
+use Rattle.std.proofs.Common.{◌≡◌, ◌≢◌, ℕ, ◌<◌, Bool, true, false, cond, ◌==◌, ◌&&◌, refl, ap, sym, subst, ◌∙◌, arith, List, [], ◌∷◌, length, set, get_or, ◌++◌, drop}
+use Rattle.std.specs.Prelude.{nat_lt}
 use Rattle.std.proofs.lemmas.Bool.Decides.{nat_tests}
 use Rattle.std.proofs.lemmas.List.{get_or_default, get_or-set_same, get_or-set_other, set-get_or}
-use Rattle.op_model.specs.declared.errors.NoMemory.{NoMemory}
 use Rattle.op_model.specs.declared.events.Class.{Class}
 use Rattle.lane_queues.specs.LaneStates.{same_lane}
 use Rattle.lane_queues.specs.Queues.{lane_number, lane_count}
@@ -73,22 +72,18 @@ lanes-new queues each count = λ i a b k. go a b k (nat_lt a queues.sizes.nodes 
         each (lane_number queues.sizes.nodes a b k) [] (omega (arith, below, count))
     go a b k false there = refl
 
--- a message at the end of a queue is one at the end of its lane. Where there was no memory for it, no lane has changed
-pub record IsPush (old new : AgedQueues) (src dst : ℕ) (class : Class) (aged : AgedMsg) (result : Result ⊤ NoMemory) : Type 0 where
-  pub ok : OnOk result (lane_in new ≡ with_lane (lane_in old) src dst class (lane_in old src dst class ++ aged ∷ []))
-  pub err : OnErr result (lane_in new ≡ lane_in old)
+-- a message at the end of a queue is one at the end of its lane
+pub lane-pushed : (queues : AgedQueues) → length queues.lists ≡ lane_count queues.sizes.nodes → (src dst : ℕ) (class : Class) → src < queues.sizes.nodes → dst < queues.sizes.nodes → (n : ℕ) → n ≡ lane_number queues.sizes.nodes src dst class →
+    (queue new : List AgedMsg) (aged : AgedMsg) → queue ≡ get_or queues.lists n queue → new ≡ queue ++ aged ∷ [] → lane_in (record queues { lists = set queues.lists n new }) ≡ with_lane (lane_in queues) src dst class (lane_in queues src dst class ++ aged ∷ [])
+lane-pushed queues count src dst class from to n number queue new aged is more =
+    lane-set queues count src dst class from to n number new (lane_in queues src dst class ++ aged ∷ []) (more ∙ ap (λ q. q ++ aged ∷ []) (lane-read queues count src dst class from to n number queue queue is))
 
-pub pushed : (queues : AgedQueues) → length queues.lists ≡ lane_count queues.sizes.nodes → (src dst : ℕ) (class : Class) → src < queues.sizes.nodes → dst < queues.sizes.nodes → (n : ℕ) → n ≡ lane_number queues.sizes.nodes src dst class →
-    (queue new : List AgedMsg) (aged : AgedMsg) (result : Result ⊤ NoMemory) → queue ≡ get_or queues.lists n queue → OnOk result (new ≡ queue ++ aged ∷ []) → OnErr result (new ≡ queue) → IsPush queues (record queues { lists = set queues.lists n new }) src dst class aged result
-pushed queues count src dst class from to n number queue new aged (Ok u) is ok err = record {
-  ok = lane-set queues count src dst class from to n number new (lane_in queues src dst class ++ aged ∷ []) (ok ∙ ap (λ q. q ++ aged ∷ []) (lane-read queues count src dst class from to n number queue queue is));
-  err = tt;
-}
-pushed queues count src dst class from to n number queue new aged (Err e) is ok err = record {
-  ok = tt;
-  err = ap (λ lists. lane_in (record queues { lists = lists })) (ap (set queues.lists n) (err ∙ is) ∙ set-get_or queues.lists n queue);
-}
+-- and one that leaves its front leaves that of its lane
+pub lane-dropped : (queues : AgedQueues) → length queues.lists ≡ lane_count queues.sizes.nodes → (src dst : ℕ) (class : Class) → src < queues.sizes.nodes → dst < queues.sizes.nodes → (n : ℕ) → n ≡ lane_number queues.sizes.nodes src dst class →
+    (queue new : List AgedMsg) → queue ≡ get_or queues.lists n queue → new ≡ drop 1 queue → lane_in (record queues { lists = set queues.lists n new }) ≡ with_lane (lane_in queues) src dst class (drop 1 (lane_in queues src dst class))
+lane-dropped queues count src dst class from to n number queue new is less =
+    lane-set queues count src dst class from to n number new (drop 1 (lane_in queues src dst class)) (less ∙ ap (drop 1) (lane-read queues count src dst class from to n number queue queue is))
 
--- a queue that isn't empty by its test
-pub some-left : (queue : List AgedMsg) → queue ≡ [] → (empty : Bool) → empty ≡ (length queue == 0) → empty ≡ false → ⊥
-some-left queue none empty is some = let test : empty ≡ true = is ∙ ap (λ (q : List AgedMsg). length q == 0) none in cc
+-- a queue put in as it was changes no lane
+pub lane-kept : (queues : AgedQueues) (n : ℕ) (queue new : List AgedMsg) → queue ≡ get_or queues.lists n queue → new ≡ queue → lane_in (record queues { lists = set queues.lists n new }) ≡ lane_in queues
+lane-kept queues n queue new is same = ap (λ lists. lane_in (record queues { lists = lists })) (ap (set queues.lists n) (same ∙ is) ∙ set-get_or queues.lists n queue)

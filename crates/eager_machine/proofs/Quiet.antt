@@ -13,8 +13,8 @@ use Rattle.op_model.specs.Tables.Processor as delayed
 use Rattle.op_model.specs.Tables.Remote as delayed_remote
 use Rattle.op_model.specs.Tables.Home as delayed_home
 use Rattle.op_model.specs.Events.Node.{Input, TakeFrom, NodeOutcome, by_row, map_ok}
-use Rattle.machine.proofs.Services.{is_for}
-use Rattle.eager_machine.proofs.ServedFor.{begun-op, evicted, row-quiet, row-undone, row-want}
+use Rattle.machine.specs.Acts.{IsRead}
+use Rattle.machine.proofs.Services.{is_for, begun-op, evicted, row-quiet, row-undone, row-want}
 use Rattle.eager_model.specs.Node.{local, taking}
 use Rattle.eager_model.specs.Rows.{begin_op, write_and_drain, writes_shared, asks_shared, give_and_drain, on_getx, on_inv_ack, meets, row_of, on_message}
 use Rattle.eager_part.proofs.EachAct.{each-act}
@@ -77,14 +77,6 @@ message-calm me home src alone room content share is = go (meets me home src alo
 abbrev pub taken_in : Input → Option Msg
 taken_in (TakeFrom src m victim) = Some m
 taken_in _ = None
-
--- a load of another node is on the line of the message that was taken, and its words leave what their sender does as it was
-pub record IsRead (share : Share) (out : NodeOutcome) (taken : Option Msg) : Type 0 where
-  pub m : Msg
-  pub taken_is : taken ≡ Some m
-  pub line : out.line ≡ msg_line m
-  pub place : out.share.place ≡ share.place
-  pub want : out.share.want ≡ share.want
 
 take-read : (sizes : Sizes) (node : ℕ) (share : Share) (src : ℕ) (m : Msg) → is_for (taking sizes node share src m).served ≡ true → IsRead share (by_row sizes node share (msg_line m) (taking sizes node share src m)) (Some m)
 unfolding put_share

@@ -1,7 +1,6 @@
 -- The start: new nodes, which have done nothing and sent nothing.
-use Rattle.std.proofs.Common.{◌≡◌, ℕ, zero, suc, ◌+◌, ◌<◌, ◌≤◌, ◌%◌, ◌==◌, Bool, true, false, cond, List, [], ◌∷◌, ◌++◌, length, replicate, refl, ap, arith, sym, subst, ◌∙◌, ◌⊎◌, inl, inr, Option, Some, None}
+use Rattle.std.proofs.Common.{◌≡◌, ℕ, zero, suc, ◌+◌, ◌<◌, ◌≤◌, ◌%◌, ◌==◌, Bool, true, false, cond, List, [], ◌∷◌, ◌++◌, length, map, replicate, refl, ap, arith, sym, subst, ◌∙◌, ◌⊎◌, inl, inr, Option, Some, None}
 use Rattle.std.specs.Prelude.{slice_get, slice_index, All}
-use Rattle.std.proofs.lemmas.Bool.{cases_lt}
 use Rattle.std.proofs.lemmas.Option.{same_Some, slice_get_within}
 use Rattle.std.proofs.lemmas.List.{length-map, length-append, append-nil, append_assoc, map_push, length_push}
 use Rattle.std.proofs.lemmas.List.Elements.{All-nil}
@@ -16,34 +15,21 @@ use Rattle.eager_home.specs.Aged.{AreWithin}
 use Rattle.eager_home.specs.Ages.{ages_of}
 use Rattle.eager_home.specs.Views.{EagerView, ages_in}
 use Rattle.eager_machine.specs.declared.queue.AgedMsg.{AgedMsg}
-use Rattle.eager_machine.specs.Kept.{share_or, share_in, ages_or, node_ages, programs_in, AreYoung, IsKept}
-use Rattle.eager_machine.specs.Lanes.{AgedQueues, UnderWay, lane_in, sent_from}
+use Rattle.eager_machine.specs.Kept.{share_or, share_in, ages_or, node_ages, programs_in, moments_in, AreYoung, IsKept}
+use Rattle.eager_machine.specs.Lanes.{AgedQueues, UnderWay, lane_in, with_age, sent_from}
 use Rattle.eager_machine.specs.declared.journal.Journal.{Journal}
 use Rattle.eager_machine.specs.Journals.{served_in}
 use Rattle.eager_machine.specs.Outboxes.{under_way}
 use Rattle.eager_machine.specs.Runs.{IsRunKept}
-use Rattle.eager_machine.proofs.Ways.{sent-none}
+use Rattle.event_tally.specs.Tallies.{tally_of}
+use Rattle.event_tally.proofs.Tallies.{tally_of-nil}
 use Rattle.machine.specs.Kept.{no_sends}
+use Rattle.machine.proofs.Sendings.{sent_by-nil}
+use Rattle.machine.proofs.Starts.{slice_get-push_below, slice_get-middle, below_or_at}
 use Rattle.message_range.specs.Fitting.{IsSentOf}
 use Rattle.msg_words.specs.SendList.{SendList}
 use Rattle.std.proofs.lemmas.Bool.Decides.{nat_tests}
 use Rattle.eager_machine.specs.Starts.{start_view, IsNewAt, AreNew}
-
-slice_get-push_below : {A : Type 0} (xs : List A) (x : A) (k : ℕ) → k < length xs → slice_get (xs ++ x ∷ []) k ≡ slice_get xs k
-slice_get-push_below [] x k below = absurd (omega arith)
-slice_get-push_below (y ∷ xs) x zero below = refl
-slice_get-push_below (y ∷ xs) x (suc k) below = slice_get-push_below xs x k (omega arith)
-
-slice_get-middle : {A : Type 0} (xs : List A) (y : A) (ys : List A) → slice_get (xs ++ y ∷ ys) (length xs) ≡ Some y
-slice_get-middle [] y ys = refl
-slice_get-middle (x ∷ xs) y ys = slice_get-middle xs y ys
-
-below_or_at : (k n : ℕ) → k < n + 1 → (k < n) ⊎ (k ≡ n)
-below_or_at k n below = go (cases_lt k n)
-  where
-    go : (k < n) ⊎ (n ≤ k) → (k < n) ⊎ (k ≡ n)
-    go (inl less) = inl less
-    go (inr more) = inr (omega arith)
 
 -- the nodes so far are new, and their programs stand before those that are left
 pub record IsStarting (sizes : Sizes) (programs rest : List (List Op)) (nodes : List EagerView) : Type 0 where
@@ -138,9 +124,9 @@ module _ (sizes : Sizes) (programs : List (List Op)) (nodes : List EagerView) (n
   })
 
   -- the machine as it is made
-  pub start-run : AreSizes sizes → ArePrograms sizes programs → (lanes : AgedQueues) (sends : SendList) (journal : Journal) → lanes.sizes ≡ sizes → lane_in lanes ≡ (λ a b class. []) → sends ≡ no_sends sizes → journal.events.items ≡ [] → journal.served.items ≡ [] →
+  pub start-run : AreSizes sizes → ArePrograms sizes programs → (lanes : AgedQueues) (sends : SendList) (journal : Journal) → lanes.sizes ≡ sizes → lane_in lanes ≡ (λ a b class. []) → sends ≡ no_sends sizes → journal.events.items ≡ [] → journal.served.items ≡ [] → journal.counts ≡ replicate 27 0 →
       IsRunKept sizes nodes lanes (record { sends = sends; moved = 0; node = 0; given = 0 }) journal
-  start-run sizes_are all lanes sends journal sized empty none no_events none_served = record {
+  start-run sizes_are all lanes sends journal sized empty none no_events none_served none_counted = record {
     kept = subst (λ es. IsKept sizes nodes way es (served_in journal.served.items)) (sym no_events) (subst (λ es. IsKept sizes nodes way [] (served_in es)) (sym none_served) (start-kept sizes_are all way way_is));
     same_sizes = sized;
     outbox = record {
@@ -150,10 +136,11 @@ module _ (sizes : Sizes) (programs : List (List Op)) (nodes : List EagerView) (n
       sent = subst (λ (s : SendList). All (IsSentOf sizes) s.list) (sym none) (All-nil (IsSentOf sizes));
     };
     given = omega arith;
+    tally = none_counted ∙ sym (tally_of-nil sizes) ∙ ap (λ es. tally_of sizes (moments_in sizes nodes es)) (sym no_events);
   }
     where
       way : UnderWay
       way = under_way lanes (record { sends = sends; moved = 0; node = 0; given = 0 })
 
       way_is : way ≡ (λ a b class. [])
-      way_is = ap (λ (s : SendList). sent_from 0 0 s.list (lane_in lanes)) none ∙ sent-none 0 0 (lane_in lanes) ∙ empty
+      way_is = ap (λ (s : SendList). sent_from 0 0 s.list (lane_in lanes)) none ∙ sent_by-nil (map (with_age 0)) refl 0 (lane_in lanes) ∙ empty

@@ -1,5 +1,6 @@
 -- What callers see of a machine: its run ends in the state of its nodes with what is under way.
-use Rattle.std.proofs.Common.{◌≡◌, ◌↔◌, ℕ, ◌<◌, List, [], ◌∷◌, ◌++◌, map, refl, ap, sym, subst, ◌∙◌, Some, Ok}
+use Rattle.std.proofs.Common.{◌≡◌, ◌↔◌, ℕ, ◌<◌, List, [], ◌∷◌, ◌++◌, map, refl, ap, sym, subst, ◌∙◌, Option, Some, Ok}
+use Rattle.std.specs.Prelude.{slice_get}
 use Rattle.std.proofs.lemmas.Option.{same_Some}
 use Rattle.std.proofs.lemmas.List.{length-map}
 use Rattle.line_map.specs.Sizes.{Sizes}
@@ -8,22 +9,24 @@ use Rattle.op_model.specs.declared.events.Event.TheVariants.{Hit, Issue, Evict, 
 use Rattle.op_model.specs.Events.Step.{after, IsTake}
 use Rattle.op_model.specs.Programs.{programs_of}
 use Rattle.op_model.specs.Run.Machines.{IsEventOf}
+use Rattle.op_model.specs.Run.Rest.{IsAtRest}
+use Rattle.op_model.specs.Run.Schedules.{first_busy, first_busy_in}
 use Rattle.op_model.specs.Run.Weight.{weight}
+use Rattle.machine_face.specs.Reads.{IsLane}
 use Rattle.machine.proofs.Laws.{some-words}
 use Rattle.machine.proofs.Programs.{program-of}
-use Rattle.eager_model.specs.Laws.{IsLineHistory}
 use Rattle.eager_model.specs.Runs.{AgedEntry, Past, run_by, start}
 use Rattle.eager_model.specs.Step.{AgedDone, effect, without_ages}
-use Rattle.eager_history.proofs.LineHistory.{one-line-history}
-use Rattle.eager_history.proofs.Runs.{sound-run}
 use Rattle.eager_rest.proofs.Falls.{falling_weight}
 use Rattle.eager_home.specs.Views.{EagerView}
-use Rattle.eager_machine.specs.Kept.{past_of, programs_in, IsKept}
-use Rattle.eager_machine.specs.Lanes.{UnderWay, IsSilent, msg_of}
+use Rattle.eager_machine.specs.Kept.{past_of, programs_in, share_or, IsKept}
+use Rattle.eager_machine.specs.Lanes.{AgedQueues, UnderWay, IsSilent, lane_in, messages_of, msg_of}
 use Rattle.eager_machine.specs.declared.queue.AgedMsg.{AgedMsg}
 use Rattle.op_model.specs.declared.events.Class.{Class}
-use Rattle.eager_machine.specs.Machines.{EagerMachineView, run_of, trace_of, IsMachine, IsNext}
+use Rattle.eager_machine.specs.Machines.{EagerMachineView, run_of, trace_of, IsMachine, IsNext, IsNodeIn}
 use Rattle.eager_machine.proofs.Laws.{programs-are, traced}
+use Rattle.eager_machine.proofs.NodeLists.{programs-at}
+use Rattle.eager_machine.proofs.Promised.{rests-own}
 use Rattle.eager_machine.proofs.Runs.{run-split}
 
 abbrev pub view_by : Sizes → List EagerView → List Event → EagerMachineView
@@ -38,12 +41,6 @@ module _ (sizes : Sizes) (nodes : List EagerView) (way : UnderWay) (events : Lis
 
   pub view-past : (past : Past) → run_of view ≡ Some past → past ≡ past_in
   view-past past ran = same_Some past past_in (sym ran ∙ view-ran)
-
-  pub view-history : (past : Past) (line : ℕ) → run_of view ≡ Some past → IsLineHistory (trace_of view) past line
-  view-history past line ran =
-      subst (λ v. IsLineHistory (trace_of v) past line) is
-      (subst (λ p. IsLineHistory (trace_of (view_by sizes nodes events)) p line) (sym (view-past past ran))
-      (one-line-history (trace_of (view_by sizes nodes events)) past_in (sound-run (trace_of (view_by sizes nodes events)) events past_in (some-words sizes kept.sizes_are) (traced sizes nodes kept.nodes_are events past_in kept.ran)) line))
 
   -- what holds of each machine
   pub view-machine : IsMachine view
@@ -83,3 +80,26 @@ module _ (sizes : Sizes) (nodes : List EagerView) (way : UnderWay) (events : Lis
       unmapped : (xs : List AgedMsg) → map msg_of xs ≡ [] → xs ≡ []
       unmapped [] e = refl
       unmapped (x ∷ xs) e = cc
+
+  -- the same, where the machine is at rest
+  pub view-rests : (past : Past) → run_of view ≡ Some past → ((src : ℕ) → IsSilent way src) ↔ IsAtRest past.state
+  view-rests past ran =
+      let empty = view-empty past ran in
+      let rests = rests-own view view-machine past ran in
+      ((λ none. rests.0 (empty.0 none)), (λ rest. empty.1 (rests.1 rest)))
+
+  -- the first busy lane of those that hold all that is under way
+  pub view-first : (lanes : AgedQueues) → lanes.sizes ≡ sizes → lane_in lanes ≡ way → (answer : Option (ℕ × ℕ × Class)) → IsLane answer (first_busy_in lanes.sizes (messages_of (lane_in lanes))) → (past : Past) → run_of view ≡ Some past → IsLane answer (first_busy view.sizes past.state)
+  view-first lanes sized all answer first past ran =
+      subst (λ (v : EagerMachineView). IsLane answer (first_busy v.sizes past.state)) is
+      (subst (λ (p : Past). IsLane answer (first_busy sizes p.state)) (sym (view-past past ran)) (subst (IsLane answer) (λ i. first_busy_in (sized i) (messages_of (all i))) first))
+
+  -- a node in the state of the run
+  pub view-node : (number : ℕ) (node : EagerView) → slice_get nodes number ≡ Some node → (past : Past) → run_of view ≡ Some past → IsNodeIn view past.state number node
+  view-node number node there past ran =
+      subst (λ (v : EagerMachineView). IsNodeIn v past.state number node) is (subst (λ (p : Past). IsNodeIn (view_by sizes nodes events) p.state number node) (sym (view-past past ran)) here)
+    where
+      here : IsNodeIn (view_by sizes nodes events) past_in.state number node
+      here =
+          let its = kept.nodes_are.each number node there in
+          record { sizes_are = its.same_sizes; number_is = its.number_is; program_is = sym (programs-at nodes number node there); share_is = sym (ap (share_or sizes number) there) }

@@ -9,17 +9,12 @@ use Rattle.op_model.specs.declared.events.Event.TheVariants.{Take}
 use Rattle.op_model.specs.declared.messages.Msg.{Msg}
 use Rattle.op_model.specs.Messages.{same_class, msg_class, msg_content}
 use Rattle.op_model.specs.Events.Step.{to_lane}
+use Rattle.op_model.proofs.Plain.{eqb-swap}
 use Rattle.op_model.proofs.Shares.{same_class-is, same_class-self}
+use Rattle.machine.proofs.Sendings.{sent_by-nil}
 use Rattle.eager_model.specs.Ages.{sent_age}
 use Rattle.eager_machine.specs.declared.queue.AgedMsg.{AgedMsg}
 use Rattle.eager_machine.specs.Lanes.{UnderWay, with_lane, with_age, msg_of, age_of, sent_from, taken_off, IsSilent}
-
-pub sent-none : (node given : ℕ) (way : UnderWay) → sent_from node given [] way ≡ way
-sent-none node given way = λ i a b class. go a b class (a == node) i
-  where
-    go : (a b : ℕ) (class : Class) (own : Bool) → way a b class ++ cond own [] [] ≡ way a b class
-    go a b class true = append-nil (way a b class)
-    go a b class false = append-nil (way a b class)
 
 module _ (node given : ℕ) (way : UnderWay) (dst : ℕ) (m : Msg) (rest : List (ℕ × Msg)) where
   -- at one lane: whether it is to this taker, from this node and of the message's class
@@ -37,9 +32,6 @@ module _ (node given : ℕ) (way : UnderWay) (dst : ℕ) (m : Msg) (rest : List 
   at-lane a b class false true of x y z = refl
   at-lane a b class false false of x y z = refl
 
-  eq-turned : (b : ℕ) → (b == dst) ≡ (dst == b)
-  eq-turned b = grind (arith, nat_tests)
-
   -- the first message that is left goes into its lane
   pub sent-first : sent_from node given rest (with_lane way node dst (msg_class m) (way node dst (msg_class m) ++ with_age given m ∷ [])) ≡ sent_from node given ((dst, m) ∷ rest) way
   sent-first = λ i a b class. whole a b class i
@@ -47,7 +39,7 @@ module _ (node given : ℕ) (way : UnderWay) (dst : ℕ) (m : Msg) (rest : List 
       whole : (a b : ℕ) (class : Class) → sent_from node given rest (with_lane way node dst (msg_class m) (way node dst (msg_class m) ++ with_age given m ∷ [])) a b class ≡ sent_from node given ((dst, m) ∷ rest) way a b class
       whole a b class =
           at-lane a b class (b == dst) (a == node) (same_class class (msg_class m)) refl refl refl
-          ∙ ap (λ t. way a b class ++ cond (a == node) (map (with_age given) (cond (t && same_class class (msg_class m)) (m ∷ to_lane b class rest) (to_lane b class rest))) []) (eq-turned b)
+          ∙ ap (λ t. way a b class ++ cond (a == node) (map (with_age given) (cond (t && same_class class (msg_class m)) (m ∷ to_lane b class rest) (to_lane b class rest))) []) (eqb-swap b dst)
 
 -- one more of a list is left out
 after-next : {A : Type 0} (xs : List A) (i : ℕ) (x : A) → slice_get xs i ≡ Some x → drop i xs ≡ x ∷ drop (suc i) xs
@@ -91,7 +83,7 @@ moved-one node given list i send age old new there age_is is =
 
 -- none is left
 pub all-moved : (node given : ℕ) (list : List (ℕ × Msg)) (i : ℕ) (way : UnderWay) → length list ≤ i → sent_from node given (drop i list) way ≡ way
-all-moved node given list i way over = ap (λ l. sent_from node given l way) (none list i over) ∙ sent-none node given way
+all-moved node given list i way over = ap (λ l. sent_from node given l way) (none list i over) ∙ sent_by-nil (map (with_age given)) refl node way
   where
     none : {A : Type 0} (xs : List A) (k : ℕ) → length xs ≤ k → drop k xs ≡ []
     none [] k le = drop-nil k

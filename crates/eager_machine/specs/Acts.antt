@@ -1,5 +1,5 @@
 -- What an event did at its node.
-use Rattle.std.specs.Prelude.{◌≡◌, ℕ, ◌+◌, ◌≤◌, ◌<◌, true, List, [], ◌∷◌, length, map, set, slice_get, All, Option, Some, None, Ok, Err}
+use Rattle.std.specs.Prelude.{◌≡◌, ℕ, ◌+◌, ◌≤◌, ◌<◌, true, false, List, [], ◌∷◌, length, map, set, slice_get, is_some, option_to_list, All, Option, Some, None, Ok, Err}
 use Rattle.line_map.specs.Sizes.{Sizes}
 use Rattle.op_model.specs.declared.events.Cause.{Cause}
 use Rattle.op_model.specs.declared.events.Class.{Class}
@@ -9,42 +9,23 @@ use Rattle.op_model.specs.declared.operations.Entry.{Entry}
 use Rattle.op_model.specs.Events.Node.{Input}
 use Rattle.op_model.specs.Events.Step.{put_at}
 use Rattle.op_model.specs.MessageWords.{IsMsgOf}
-use Rattle.op_model.specs.Messages.{msg_line}
 use Rattle.op_model.specs.Operations.{Words}
 use Rattle.op_model.specs.Programs.{programs_of}
-use Rattle.op_model.specs.Run.Runs.{entry_for}
-use Rattle.op_model.specs.Shares.{want_on}
 use Rattle.message_range.specs.Fitting.{IsSentOf}
-use Rattle.cpu_cache.specs.declared.effects.Served.{Served}
-use Rattle.cpu_cache.specs.declared.effects.Served.TheVariants as served
 use Rattle.msg_words.specs.SendList.{SendList}
-use Rattle.machine.specs.Acts.{off_of}
+use Rattle.event_tally.specs.Marks.{take_marks_of}
+use Rattle.event_tally.specs.Tallies.{TellsMarks}
+use Rattle.machine.specs.Acts.{off_of, entries_after}
 use Rattle.eager_model.specs.Node.{local, meets_row, put_ages}
 use Rattle.eager_model.specs.Runs.{AgedEntry, aged_entries}
-use Rattle.eager_model.specs.Step.{AgedDone, effect}
+use Rattle.eager_model.specs.Step.{AgedDone, effect, without_ages}
 use Rattle.eager_home.specs.Aged.{AgedActs, AreWithin}
 use Rattle.eager_home.specs.Views.{EagerView, ages_in, RiseWithin}
 use Rattle.eager_home.specs.declared.aging.AgedEffect.{AgedEffect}
-use Rattle.eager_machine.specs.Journals.{entry_list, served_in}
+use Rattle.eager_machine.specs.Journals.{served_in}
 use Rattle.eager_machine.specs.Kept.{share_in, node_ages, state_of, ages_of, programs_in, AreNodes, AreYoung}
 use Rattle.eager_machine.specs.Lanes.{UnderWay, messages_of, AreFresh}
 use Rattle.eager_machine.specs.declared.acts.Act.{Act}
-
-abbrev pub plain_list : Option Entry → List Entry
-plain_list None = []
-plain_list (Some entry) = entry ∷ []
-
--- the entries of what an event served, read from the nodes after it. A load of another node is on the line of the message that was taken
-abbrev pub entries_after : Sizes → List EagerView → Option Msg → Served → List Entry
-entries_after sizes nodes taken served.Nothing = []
-entries_after sizes nodes taken (served.Own entry) = entry ∷ []
-entries_after sizes nodes None (served.LoadBy node on) = []
-entries_after sizes nodes (Some m) (served.LoadBy node on) = entry_for node (share_in sizes nodes node).place on (want_on sizes (share_in sizes nodes node).want (msg_line m))
-
--- words that another node is sent fill a line
-abbrev pub FillsLine : Sizes → Served → Type 0
-FillsLine sizes (served.LoadBy node on) = length on ≡ sizes.words
-FillsLine sizes _ = Unit {0}
 
 -- no age rises by more than one, where the message taken has this age
 abbrev pub RiseFrom : ℕ → EagerView → EagerView → AgedEffect → Type 0
@@ -61,6 +42,7 @@ pub record IsDoneAt (nodes nodes' : List EagerView) (node : ℕ) (input : Input)
   pub out : SendList
   pub out' : SendList
   pub acts : AgedActs old.sizes old.number old.program brought old.share (ages_in old) input age new.share (ages_in new) out out' did
+  pub is_done : is_some did.effect.done ≡ acts.acts.outcome.done
   pub nothing : out.list ≡ []
   pub sends_are : sends ≡ out'.list
   pub rises : RiseFrom age old new did
@@ -79,10 +61,11 @@ AreSent sizes sends = All (IsSentOf sizes) sends
 abbrev pub at_age : ℕ → List Entry → List AgedEntry
 at_age age entries = map (λ entry. record { age = age; entry = entry }) entries
 
--- what is noted of an act: the age of the words given, and the entry of what was served, where this message was taken
+-- what is noted of an act: the age of the words given, whether an operation was done, and the entry of what was served, where this message was taken
 pub record IsNoted (sizes : Sizes) (nodes : List EagerView) (taken : Option Msg) (did : AgedEffect) (act : Act) : Type 0 where
   pub given_is : act.given ≡ did.given
-  pub entry_is : served_in (entry_list act.entry) ≡ at_age did.served (entries_after sizes nodes taken did.effect.served)
+  pub done_is : act.done ≡ is_some did.effect.done
+  pub entry_is : served_in (option_to_list act.entry) ≡ at_age did.served (entries_after sizes (share_in sizes nodes) taken did.effect.served)
 
 -- one of the nodes did its act for an input of its own
 pub record IsAlone (sizes : Sizes) (nodes nodes' : List EagerView) (node : ℕ) (input : Input) (sends : List (ℕ × Msg)) (act : Act) : Type 0 where
@@ -91,6 +74,8 @@ pub record IsAlone (sizes : Sizes) (nodes nodes' : List EagerView) (node : ℕ) 
   pub row : IsDoneAt nodes nodes' node input 0 sends did
   pub sent : AreSent sizes sends
   pub noted : IsNoted sizes nodes' None did act
+  pub takes_nothing : act.takes ≡ take_marks_of None
+  pub not_marked : act.marked ≡ false
 
 -- the first message of a lane is one of the machine and meets a row at its taker
 pub record AreFrontsMet (sizes : Sizes) (nodes : List EagerView) (way : UnderWay) : Type 0 where
@@ -111,7 +96,8 @@ pub record IsAct (sizes : Sizes) (nodes nodes' : List EagerView) (way : UnderWay
   pub programs_are : programs_in nodes' ≡ programs_in nodes
   pub shares : put_at (share_in sizes nodes) done.node done.did.out.share ≡ share_in sizes nodes'
   pub ages : put_at (node_ages nodes) done.node (put_ages done.did.out.line done.did.ages (node_ages nodes done.node)) ≡ node_ages nodes'
-  pub noted : aged_entries sizes (state_of sizes nodes way) done ≡ served_in (entry_list act.entry)
+  pub noted : aged_entries sizes (state_of sizes nodes way) done ≡ served_in (option_to_list act.entry)
+  pub tells : TellsMarks sizes (record { before = state_of sizes nodes way; event = event; done = without_ages done }) act.takes act.done sends act.marked
   pub rises : (bound : ℕ) → AreYoung bound nodes → AreFresh bound way → AreYoung (bound + 1) nodes' × (act.given ≤ bound)
 
 -- an event is refused for this cause

@@ -4,6 +4,7 @@ use Rattle.line_map.specs.Sizes.{Sizes, AreSizes}
 use Rattle.op_model.specs.declared.events.Event.{Event}
 use Rattle.op_model.specs.declared.operations.Op.{Op}
 use Rattle.op_model.specs.Programs.{programs_of, IsProgramOf}
+use Rattle.op_model.specs.Run.Counts.{Moment}
 use Rattle.op_model.specs.Run.Runs.{start_share}
 use Rattle.op_model.specs.Shares.{Share, State}
 use Rattle.eager_model.specs.Node.{NodeAges}
@@ -11,6 +12,7 @@ use Rattle.eager_model.specs.Runs.{AgedEntry, Past, first_ages, start, run_by}
 use Rattle.eager_model.specs.Step.{Ages}
 use Rattle.eager_home.specs.Aged.{AreWithin}
 use Rattle.eager_home.specs.Views.{EagerView, ages_in}
+use Rattle.eager_report.specs.Moments.{moments}
 use Rattle.eager_machine.specs.Lanes.{UnderWay, messages_of, lane_ages, AreFresh}
 
 -- the share of a node. There is no node past the last one, and its share is the first one for ever
@@ -52,6 +54,10 @@ pub record IsNodeAt (sizes : Sizes) (node : ℕ) (view : EagerView) : Type 0 whe
 pub record AreNodes (sizes : Sizes) (nodes : List EagerView) : Type 0 where
   pub count : length nodes ≡ sizes.nodes
   pub each : (node : ℕ) (view : EagerView) → slice_get nodes node ≡ Some view → IsNodeAt sizes node view
+
+-- the moments of these events, from the start
+abbrev pub moments_in : Sizes → List EagerView → List Event → List Moment
+moments_in sizes nodes events = moments sizes (programs_of (programs_in nodes)) (start sizes) events
 
 -- no node has an age above this one
 abbrev pub AreYoung : ℕ → List EagerView → Type 0

@@ -1,16 +1,16 @@
 -- What is under way: the messages of each lane, each with the age of its words.
-use Rattle.std.specs.Prelude.{◌≡◌, ℕ, ◌≤◌, if◌then◌else◌, ◌&&◌, ◌==◌, nat_lt, List, [], ◌++◌, drop, map, All, slice_index_or}
+use Rattle.std.specs.Prelude.{◌≡◌, ℕ, ◌≤◌, ◌<◌, if◌then◌else◌, ◌&&◌, ◌==◌, nat_lt, List, [], ◌++◌, drop, map, All, slice_index_or}
 use Rattle.line_map.specs.Sizes.{Sizes}
 use Rattle.op_model.specs.declared.events.Class.{Class}
 use Rattle.op_model.specs.declared.events.Event.{Event}
 use Rattle.op_model.specs.declared.messages.Msg.{Msg}
-use Rattle.op_model.specs.Events.Step.{to_lane}
 use Rattle.op_model.specs.Messages.{msg_content}
 use Rattle.op_model.specs.Shares.{Lanes}
 use Rattle.eager_model.specs.Ages.{sent_age}
 use Rattle.lane_queues.specs.LaneStates.{same_lane}
 use Rattle.lane_queues.specs.Queues.{lane_number}
-use Rattle.machine.specs.Acts.{off_of}
+pub use Rattle.machine.specs.Acts.{taken_off}
+use Rattle.machine.specs.Acts.{sent_by}
 use Rattle.eager_machine.specs.declared.queue.AgedMsg.{AgedMsg}
 
 abbrev pub msg_of : AgedMsg → Msg
@@ -50,11 +50,7 @@ with_age given m = record { msg = m; age = sent_age given (msg_content m) }
 
 -- the lanes with what a node has sent behind what they held
 abbrev pub sent_from : ℕ → ℕ → List (ℕ × Msg) → UnderWay → UnderWay
-sent_from node given sends way a b class = way a b class ++ (if a == node then map (with_age given) (to_lane b class sends) else [])
-
--- the lanes without the message that an event takes
-abbrev pub taken_off : Event → UnderWay → UnderWay
-taken_off event way a b class = drop (off_of event a b class) (way a b class)
+sent_from node given sends way a b class = sent_by (map (with_age given)) node sends way a b class
 
 -- no message has an age above this one
 abbrev pub AreFresh : ℕ → UnderWay → Type 0
@@ -63,3 +59,7 @@ AreFresh bound way = (a b : ℕ) (class : Class) → All (λ aged. aged.age ≤ 
 -- nothing is under way from this node
 abbrev pub IsSilent : UnderWay → ℕ → Type 0
 IsSilent way a = (b : ℕ) (class : Class) → way a b class ≡ []
+
+-- a lane between nodes of the machine, by its parts
+abbrev pub IsBetween : Sizes → (ℕ × ℕ × Class) → Type 0
+IsBetween sizes lane = (lane.0 < sizes.nodes) × (lane.1 < sizes.nodes)

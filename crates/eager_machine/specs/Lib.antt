@@ -1,9 +1,12 @@
 pub mod Lanes
+pub mod Marks
 pub mod Outboxes
 pub mod Machines
+pub mod Seen
 pub mod Journals
 pub mod Kept
 pub mod Acts
 pub mod Answers
 pub mod Runs
 pub mod Starts
+pub mod Schedules

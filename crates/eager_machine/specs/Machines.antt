@@ -1,16 +1,17 @@
 -- A machine of the eager core as contracts see it: its sizes, the programs of its nodes, and the events that it stored.
-use Rattle.std.specs.Prelude.{◌≡◌, ◌<◌, List, [], Option, Some, Result, Ok, Err}
+use Rattle.std.specs.Prelude.{◌≡◌, ◌<◌, ℕ, List, [], Option, Some, Result, Ok, Err}
 use Rattle.std.specs.List.{flat_map}
 use Rattle.line_map.specs.Sizes.{Sizes, AreSizes}
 use Rattle.op_model.specs.declared.events.Cause.{Cause}
 use Rattle.op_model.specs.declared.events.Event.{Event}
 use Rattle.op_model.specs.declared.operations.Op.{Op}
-use Rattle.op_model.specs.Shares.{Trace}
+use Rattle.op_model.specs.Shares.{Trace, State}
 use Rattle.op_model.specs.Events.Step.{after, IsTake}
 use Rattle.op_model.specs.Programs.{ArePrograms, programs_of}
 use Rattle.op_model.specs.Run.Weight.{weight}
 use Rattle.eager_model.specs.Runs.{Past, past_after, start, run_by}
 use Rattle.eager_model.specs.Step.{AgedDone, effect, without_ages}
+use Rattle.eager_home.specs.Views.{EagerView}
 use Rattle.machine_face.specs.declared.refusal.ApplyError.{ApplyError}
 use Rattle.machine_face.specs.declared.refusal.ApplyError.TheVariants.{NotEnabled, Memory}
 
@@ -49,3 +50,17 @@ pub record IsMachine (view : EagerMachineView) : Type 0 where
 abbrev pub IsRefusedFor : EagerMachineView → Past → Event → ApplyError → Type 0
 IsRefusedFor view past event (NotEnabled cause) = effect_in view past event ≡ Err cause
 IsRefusedFor view past event Memory = Unit {0}
+
+-- an event is enabled behind the run of a machine
+pub record IsEnabled (view : EagerMachineView) (event : Event) : Type 0 where
+  pub past : Past
+  pub ran : run_of view ≡ Some past
+  pub done : AgedDone
+  pub does : effect_in view past event ≡ Ok done
+
+-- a node of the machine in this state
+pub record IsNodeIn (view : EagerMachineView) (state : State) (number : ℕ) (node : EagerView) : Type 0 where
+  pub sizes_are : node.sizes ≡ view.sizes
+  pub number_is : node.number ≡ number
+  pub program_is : node.program ≡ programs_of view.programs number
+  pub share_is : node.share ≡ state.share number

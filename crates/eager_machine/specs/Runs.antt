@@ -1,9 +1,10 @@
--- What the machine keeps between two calls.
+-- What the machine keeps between two calls: its numbers are those of its run.
 use Rattle.std.specs.Prelude.{◌≡◌, ◌≤◌, List, length}
 use Rattle.line_map.specs.Sizes.{Sizes}
 use Rattle.eager_home.specs.Views.{EagerView}
 use Rattle.eager_machine.specs.Journals.{served_in}
-use Rattle.eager_machine.specs.Kept.{IsKept}
+use Rattle.event_tally.specs.Tallies.{tally_of}
+use Rattle.eager_machine.specs.Kept.{moments_in, IsKept}
 use Rattle.eager_machine.specs.Lanes.{AgedQueues}
 use Rattle.eager_machine.specs.Outboxes.{under_way, IsOutbox}
 use Rattle.eager_machine.specs.declared.journal.Journal.{Journal}
@@ -14,3 +15,4 @@ pub record IsRunKept (sizes : Sizes) (nodes : List EagerView) (lanes : AgedQueue
   pub same_sizes : lanes.sizes ≡ sizes
   pub outbox : IsOutbox sizes out
   pub given : out.given ≤ length journal.events.items
+  pub tally : journal.counts ≡ tally_of sizes (moments_in sizes nodes journal.events.items)

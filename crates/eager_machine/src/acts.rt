@@ -6,26 +6,32 @@ ghost use Rattle.op_model.specs.MessageWords.{IsMsgOf};
 ghost use Rattle.op_model.specs.Events.Node.{TakeFrom};
 ghost use Rattle.op_model.specs.Run.Machines.{IsEventOf};
 ghost use Rattle.magic_node.specs.Nodes.{FitsEvent, input_of};
+ghost use Rattle.machine.specs.Acts.{FillsLine};
 ghost use Rattle.machine.specs.Kept.{no_sends};
 ghost use Rattle.eager_model.specs.Node.{meets_row};
-ghost use Rattle.eager_machine.specs.Acts.{AreFrontsMet, AreSent, FillsLine, IsAct, IsAlone, IsDoneAt, IsRefusedAt, IsRefusedIn};
+ghost use Rattle.eager_machine.specs.Acts.{AreFrontsMet, AreSent, IsAct, IsAlone, IsDoneAt, IsRefusedAt, IsRefusedIn};
 ghost use Rattle.eager_machine.specs.Kept.{AreNodes, AreYoung, share_in};
 ghost use Rattle.eager_machine.specs.Lanes.{lane_in};
 
-use crate::entries::{aged_entry, entry_served, own_entry};
-use crate::journal::AgedEntry;
+use crate::entries::{aged_entry, entry_served};
 use crate::lanes::AgedLanes;
 use eager_home::{AgedEffect, EagerNode, LocalEvent};
+use eager_report::AgedEntry;
+use event_tally::{is_marked_load, take_marks};
 use line_map::Machine;
+use machine::own_entry;
 use msg_words::Sends;
 use op_model::{Cause, Class, Event, Msg};
 
-/// What an event did: at which node, the age of the words that it gave, and the entry of the operation that it served.
+/// What an event did: at which node, the age of the words that it gave, whether an operation of that node was done, and the entry of the operation that was served; of the message that it took, by which counts of messages it is counted, and whether it was the Put of a marked load.
 #[derive(Clone, Copy)]
 pub(crate) struct Act {
     pub(crate) node: u32,
     pub(crate) given: u64,
+    pub(crate) done: bool,
     pub(crate) entry: Option<AgedEntry>,
+    pub(crate) takes: [bool; 14],
+    pub(crate) marked: bool,
 }
 
 // A node does an event of its own.
@@ -49,6 +55,7 @@ fn do_alone(
     ensures same { OnErr result ((nodes.new.items ≡ nodes.old.items) × (out.new ≡ out.old)) }
 {
     let node = &mut nodes[node as usize];
+    let _kept = node.number();
     node.local(event, room, out)
 }
 
@@ -110,7 +117,10 @@ fn act_alone(
     Ok(Act {
         node,
         given: did.given,
+        done: did.effect.done.is_some(),
         entry: aged_entry(did.served, own_entry(&did.effect.served)),
+        takes: [false; 14],
+        marked: false,
     })
 }
 
@@ -140,14 +150,18 @@ fn act_on_message(
         return Err(Cause::LaneEmpty);
     };
     let msg = aged.msg;
+    let marked = is_marked_load(&cfg, dst, nodes[dst as usize].proc().want(), &msg);
     let did = do_take(cfg, nodes, out, src, dst, &msg, aged.age, victim)?;
     Ok(Act {
         node: dst,
         given: did.given,
+        done: did.effect.done.is_some(),
         entry: aged_entry(
             did.served,
             entry_served(&cfg, nodes, &msg, &did.effect.served),
         ),
+        takes: take_marks(&msg),
+        marked,
     })
 }
 

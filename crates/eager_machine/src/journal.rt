@@ -1,22 +1,20 @@
 //! What the machine notes of its events.
 
-ghost use Rattle.std.specs.Prelude.{◌≡◌, ◌∷◌, ◌++◌, [], map, OnOk};
-ghost use Rattle.eager_machine.specs.Journals.{HasRoom, IsSameJournal, entry_list};
+ghost use Rattle.std.specs.Prelude.{◌≡◌, ℕ, ◌≤◌, ◌∷◌, ◌++◌, [], length, map, slice_index, option_to_list, OnOk};
+ghost use Rattle.event_tally.specs.Marks.{AreTakeMarks, marked_up, marks_of};
+ghost use Rattle.eager_machine.specs.Journals.{HasRoom, IsSameJournal};
 
-use op_model::{Entry, Event, NoMemory};
+use crate::acts::Act;
+use eager_report::AgedEntry;
+use event_tally::{Naks, count_up, marks};
+use op_model::{Event, NoMemory};
 
-/// An operation that was served, with its age.
-#[derive(Clone, Copy)]
-pub struct AgedEntry {
-    pub age: u64,
-    pub entry: Entry,
-}
-
-/// The events that were made, and the entries of the operations that they served with their ages, both in their order.
+/// The events that were made, the entries of the operations that they served with their ages, both in their order, and the numbers of all counts.
 #[derive(Drop)]
 pub(crate) struct Journal {
     pub(crate) events: Vec<Event>,
     pub(crate) served: Vec<AgedEntry>,
+    pub(crate) counts: [u64; 27],
 }
 
 impl Journal {
@@ -29,14 +27,21 @@ impl Journal {
         self.served.reserve(1).map_err(|_| NoMemory)
     }
 
-    /// Notes an event with the entry of the operation that it served, where it served one.
-    pub(crate) fn note(&mut self, event: Event, entry: Option<AgedEntry>)
+    /// Notes an event with what it did.
+    pub(crate) fn note(&mut self, event: Event, act: &Act, naks: Naks)
         requires room { HasRoom self.old }
+        requires counts { (i : ℕ) → slice_index self.old.counts i ≤ length self.old.events.items }
+        requires takes { AreTakeMarks act.now.takes }
         ensures events { self.new.events.items ≡ self.old.events.items ++ event ∷ [] }
-        ensures served { self.new.served.items ≡ self.old.served.items ++ entry_list entry }
+        ensures served { self.new.served.items ≡ self.old.served.items ++ option_to_list act.now.entry }
+        ensures counts { self.new.counts ≡ marked_up self.old.counts (marks_of event act.now.takes act.now.done naks act.now.marked) }
     {
+        count_up(
+            &mut self.counts,
+            &marks(event, &act.takes, act.done, naks, act.marked),
+        );
         self.events.push_reserved(event);
-        if let Some(entry) = entry {
+        if let Some(entry) = act.entry {
             self.served.push_reserved(entry);
         }
     }

@@ -1,57 +1,37 @@
 //! The lanes between the nodes of a machine, of messages with their ages.
 
-ghost use Rattle.std.specs.Prelude.{◌≡◌, ◌<◌, ◌↔◌, ℕ, ◌∷◌, ◌++◌, [], drop, map, slice_get, IsTrue, IfOk, OnOk, OnErr};
+ghost use Rattle.std.specs.Prelude.{◌≡◌, ◌<◌, ◌↔◌, ℕ, ◌∷◌, ◌++◌, [], drop, map, slice_get, IsNone, IfSome, IfOk, OnOk, OnErr};
 ghost use Rattle.op_model.specs.declared.events.Class.TheVariants.{Request};
 ghost use Rattle.op_model.specs.Events.Step.{departures as departures_in};
 ghost use Rattle.op_model.specs.Messages.{msg_class};
-ghost use Rattle.lane_queues.specs.Queues.{lane_number as number_of, lane_count as count_of};
-ghost use Rattle.eager_machine.specs.Lanes.{lane_in, msg_of, with_lane, IsSilent};
+ghost use Rattle.op_model.specs.Run.Schedules.{first_busy_in};
+ghost use Rattle.machine_face.specs.Reads.{IsLane};
+ghost use Rattle.eager_machine.specs.Lanes.{lane_in, messages_of, msg_of, with_lane, IsBetween, IsSilent};
 
 use crate::queue::{AgedMsg, AgedQueue};
+use lane_queues::{BusyLanes, lane_count, lane_number};
 use line_map::Machine;
 use op_model::{Class, NoMemory};
 use std::alloc::Global;
 use std::marker::Model;
 
-// How many lanes a machine has, those from a node to itself too.
-fn lane_count(cfg: Machine) -> usize
-    ensures value { result ≡ count_of cfg.nodes }
-{
-    let nodes = cfg.nodes() as usize;
-    nodes * nodes * 2
-}
-
-// The number of a lane.
-fn lane_number(cfg: Machine, src: u32, dst: u32, class: Class) -> usize
-    requires from { src < cfg.nodes }
-    requires to { dst < cfg.nodes }
-    ensures value { result ≡ number_of cfg.nodes src dst class }
-    ensures below { result < count_of cfg.nodes }
-{
-    let pair = src as usize * cfg.nodes() as usize + dst as usize;
-    match class {
-        Class::Request => pair * 2,
-        Class::Reply => pair * 2 + 1,
-    }
-}
-
-/// The lanes of a machine as one list of queues. They take memory as messages come to their ends.
+/// The lanes of a machine as one list of queues, with the set of those that hold a message. They take memory as messages come to their ends.
 #[derive(Drop)]
 pub(crate) struct AgedLanes {
     cfg: Machine,
     queues: Vec<AgedQueue>,
+    busy: BusyLanes,
 }
 
 impl Model for AgedLanes {
-    ghost use Rattle.std.specs.Prelude.{◌≡◌, length};
-    ghost use Rattle.lane_queues.specs.Queues.{lane_count};
     ghost use Rattle.eager_machine.specs.Lanes.{AgedQueues};
+    ghost use Rattle.eager_machine.specs.Marks.{AreMarked};
 
     ghost Value = { AgedQueues };
 
     ghost view = { λ l. record { sizes = l.cfg; lists = l.queues.items } };
 
-    ghost invariant = { λ l. length l.queues.items ≡ lane_count l.cfg.nodes };
+    ghost invariant = { λ l. AreMarked (record { sizes = l.cfg; lists = l.queues.items }) l.busy };
 }
 
 impl AgedLanes {
@@ -60,14 +40,18 @@ impl AgedLanes {
         ensures sizes { IfOk result (λ lanes. lanes.sizes ≡ cfg) }
         ensures empty { IfOk result (λ lanes. lane_in lanes ≡ (λ src dst class. [])) }
     {
-        let count = lane_count(cfg);
+        let count = lane_count(&cfg);
         let Ok(mut queues) = Vec::with_capacity(alloc, count) else {
             return Err(NoMemory);
         };
         for _number in 0..count {
             queues.push_reserved(AgedQueue::new(alloc));
         }
-        Ok(AgedLanes { cfg, queues })
+        Ok(AgedLanes {
+            cfg,
+            queues,
+            busy: BusyLanes::new(),
+        })
     }
 
     fn queue(&self, src: u32, dst: u32, class: Class) -> &AgedQueue
@@ -75,7 +59,7 @@ impl AgedLanes {
         requires to { dst < self.now.sizes.nodes }
         ensures { result.now ≡ lane_in self.now src dst class }
     {
-        &self.queues[lane_number(self.cfg, src, dst, class)]
+        &self.queues[lane_number(&self.cfg, src, dst, class)]
     }
 
     /// The first message of a lane.
@@ -94,8 +78,11 @@ impl AgedLanes {
         ensures sizes { self.new.sizes ≡ self.old.sizes }
         ensures lane { lane_in self.new ≡ with_lane (lane_in self.old) src dst class (drop 1 (lane_in self.old src dst class)) }
     {
-        let number = lane_number(self.cfg, src, dst, class);
-        self.queues[number].drop_front();
+        let number = lane_number(&self.cfg, src, dst, class);
+        let queue = &mut self.queues[number];
+        queue.drop_front();
+        let is_left = !queue.is_empty();
+        self.busy.put(src, dst, class, is_left);
     }
 
     /// A message comes to the end of the lane of its class.
@@ -106,9 +93,12 @@ impl AgedLanes {
         ensures ok { OnOk result (lane_in self.new ≡ with_lane (lane_in self.old) src dst (msg_class aged.msg) (lane_in self.old src dst (msg_class aged.msg) ++ aged ∷ [])) }
         ensures err { OnErr result (lane_in self.new ≡ lane_in self.old) }
     {
-        let number = lane_number(self.cfg, src, dst, aged.msg.class());
+        let class = aged.msg.class();
+        let number = lane_number(&self.cfg, src, dst, class);
         let queue = &mut self.queues[number];
-        queue.push(aged)
+        queue.push(aged)?;
+        self.busy.mark(src, dst, class);
+        Ok(())
     }
 
     /// How many messages of evictions a lane of requests holds: write-backs and hints.
@@ -120,31 +110,12 @@ impl AgedLanes {
         self.queue(src, dst, Class::Request).departures()
     }
 
-    // Whether a node has nothing under way.
-    fn are_empty_from(&self, src: u32) -> bool
-        requires { src < self.now.sizes.nodes }
-        ensures { IsTrue result ↔ IsSilent (lane_in self.now) src }
+    /// The first lane that isn't empty: by sender, then by taker, then requests before replies. None where nothing is under way.
+    pub(crate) fn first_busy(&self) -> Option<(u32, u32, Class)>
+        ensures first { IsLane result (first_busy_in self.now.sizes (messages_of (lane_in self.now))) }
+        ensures within { IfSome result (IsBetween self.now.sizes) }
+        ensures none { IsNone result ↔ ((src : ℕ) → IsSilent (lane_in self.now) src) }
     {
-        for dst in 0..self.cfg.nodes() {
-            if !self.queue(src, dst, Class::Request).is_empty() {
-                return false;
-            }
-            if !self.queue(src, dst, Class::Reply).is_empty() {
-                return false;
-            }
-        }
-        true
-    }
-
-    /// Whether nothing is under way.
-    pub(crate) fn are_empty(&self) -> bool
-        ensures { IsTrue result ↔ ((src : ℕ) → IsSilent (lane_in self.now) src) }
-    {
-        for src in 0..self.cfg.nodes() {
-            if !self.are_empty_from(src) {
-                return false;
-            }
-        }
-        true
+        self.busy.first()
     }
 }

@@ -8,9 +8,11 @@ mod journal;
 mod lanes;
 mod nodes;
 mod queue;
+mod reads;
 mod run;
 mod sending;
+mod serial;
+mod text;
 
 pub use eager::EagerMachine;
-pub use journal::AgedEntry;
 pub use machine_face::ApplyError;

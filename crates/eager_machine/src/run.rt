@@ -4,6 +4,7 @@ ghost use Rattle.std.specs.Prelude.{◌≡◌, ◌∷◌, ◌++◌, [], OnOk, On
 ghost use Rattle.op_model.specs.Run.Machines.{IsEventOf};
 ghost use Rattle.eager_machine.specs.Answers.{IsCauseIn};
 ghost use Rattle.eager_machine.specs.Kept.{programs_in};
+ghost use Rattle.eager_machine.specs.Lanes.{lane_in};
 ghost use Rattle.eager_machine.specs.Outboxes.{under_way};
 ghost use Rattle.eager_machine.specs.Runs.{IsRunKept};
 
@@ -12,9 +13,10 @@ use crate::journal::Journal;
 use crate::lanes::AgedLanes;
 use crate::sending::{Outbox, send_all, take_off};
 use eager_home::EagerNode;
+use event_tally::naks_of;
 use line_map::Machine;
 use machine_face::ApplyError;
-use op_model::Event;
+use op_model::{Event, NoMemory};
 
 /// The nodes of a machine in the order of their numbers, the lanes between them, what the last event sent, and the journal.
 #[derive(Drop)]
@@ -27,6 +29,18 @@ pub(crate) struct EagerRun {
 }
 
 impl EagerRun {
+    /// What the last event sent goes into its lanes, which then hold all that is under way. Want of memory leaves the last messages where they are. Nothing else changes.
+    pub(crate) fn settle(&mut self) -> Result<(), NoMemory>
+        requires { IsRunKept self.old.cfg self.old.nodes.items self.old.lanes self.old.out self.old.journal }
+        ensures kept { IsRunKept self.new.cfg self.new.nodes.items self.new.lanes self.new.out self.new.journal }
+        ensures cfg { self.new.cfg ≡ self.old.cfg }
+        ensures nodes { self.new.nodes ≡ self.old.nodes }
+        ensures journal { self.new.journal ≡ self.old.journal }
+        ensures settled { OnOk result (lane_in self.new.lanes ≡ under_way self.old.lanes self.old.out) }
+    {
+        send_all(&mut self.lanes, &mut self.out)
+    }
+
     /// Makes an event, or refuses it for its first cause. A refusal, and want of memory, change nothing but what of the last event's messages has gone into the lanes already.
     pub(crate) fn apply(&mut self, event: Event) -> Result<(), ApplyError>
         requires kept { IsRunKept self.old.cfg self.old.nodes.items self.old.lanes self.old.out self.old.journal }
@@ -57,7 +71,8 @@ impl EagerRun {
         take_off(&mut self.lanes, event);
         self.out.node = act.node;
         self.out.given = act.given;
-        self.journal.note(event, act.entry);
+        let naks = naks_of(&self.out.sends);
+        self.journal.note(event, &act, naks);
         Ok(())
     }
 }

@@ -3,14 +3,13 @@
 ghost use Rattle.std.specs.Prelude.{◌≡◌, ◌+◌, ◌<◌, length, OnOk};
 ghost use Rattle.op_model.specs.Run.Machines.{IsEventOf};
 ghost use Rattle.machine.specs.Kept.{no_sends};
-ghost use Rattle.eager_model.specs.Ages.{sent_age};
-ghost use Rattle.op_model.specs.Messages.{msg_content};
 ghost use Rattle.eager_machine.specs.Lanes.{lane_in, taken_off};
 ghost use Rattle.eager_machine.specs.Outboxes.{under_way, IsOutbox, IsSameSender};
 
 use crate::lanes::AgedLanes;
 use crate::queue::AgedMsg;
-use msg_words::{Msg, Sends};
+use eager_home::age_sent;
+use msg_words::Sends;
 use op_model::{Event, NoMemory};
 
 /// What the last event sent: its messages, of which so many have gone into their lanes, the node that sent them, and the age of the words that it gave.
@@ -20,18 +19,6 @@ pub(crate) struct Outbox {
     pub(crate) moved: u32,
     pub(crate) node: u32,
     pub(crate) given: u64,
-}
-
-// The age of a message, where the words given have this one. A PutX begins the next age.
-fn age_sent(given: u64, msg: &Msg) -> u64
-    requires { given < 18446744073709551615 }
-    ensures { result ≡ sent_age given (msg_content msg.now) }
-{
-    match msg {
-        Msg::PutX { .. } => given + 1,
-        Msg::Put { .. } | Msg::ShWb { .. } | Msg::Wb { .. } => given,
-        _ => 0,
-    }
 }
 
 // The next message goes into its lane. Want of memory changes nothing.

@@ -7,7 +7,8 @@ use Rattle.eager_model.specs.Node.{local}
 use Rattle.eager_home.specs.Aged.{AgedActs, AreWithin}
 use Rattle.eager_home.specs.Views.{RiseWithin, ages_in}
 use Rattle.eager_machine.specs.Acts.{AreSent, IsDoneAt, IsRefusedAt}
-use Rattle.eager_machine.proofs.Answered.{if-both, fits-event, sends-room, sent-now, done-at}
+use Rattle.machine.proofs.Doing.{fits-event, sends-room}
+use Rattle.eager_machine.proofs.Answered.{if-both, sent-now, done-at}
 use Rattle.eager_machine.proofs.NodeLists.{node-there}
 use Rattle.eager_machine.proofs.acts.do_alone.Goals as goal
 
@@ -15,7 +16,8 @@ pub local-requires-clause-fits : goal.local-requires-clause-fits
 local-requires-clause-fits c =
     let old = c.index_mut-node.result.now in
     let there = node-there c.args.cfg c.args.nodes.now.items c.args.node old old c.requires.nodes c.requires.below c.index_mut-node.ensures.value in
-    fits-event c.args.cfg c.args.node old c.args.event (c.requires.nodes.each c.args.node old there) c.requires.line
+    let is = c.requires.nodes.each c.args.node old there in
+    fits-event c.args.cfg old.sizes c.args.node old.number c.args.event is.same_sizes is.number_is c.requires.line
 
 pub local-requires-clause-young : goal.local-requires-clause-young
 local-requires-clause-young c =
@@ -27,7 +29,7 @@ pub local-requires-clause-space : goal.local-requires-clause-space
 local-requires-clause-space c =
     let old = c.index_mut-node.result.now in
     let there = node-there c.args.cfg c.args.nodes.now.items c.args.node old old c.requires.nodes c.requires.below c.index_mut-node.ensures.value in
-    sends-room c.args.cfg c.args.node old c.args.out.now (c.requires.nodes.each c.args.node old there) c.requires.nothing
+    sends-room c.args.cfg old.sizes c.args.out.now (c.requires.nodes.each c.args.node old there).same_sizes c.requires.nothing
 
 pub returns-clause-ok : goal.returns-clause-ok
 returns-clause-ok c =
@@ -38,7 +40,7 @@ returns-clause-ok c =
     let there = node-there c.args.cfg nodes c.args.node old old c.requires.nodes c.requires.below c.index_mut-node.ensures.value in
     if-both c.local.result (λ did. AgedActs old.sizes old.number old.program [] old.share (ages_in old) input 0 new.share (ages_in new) c.args.out.now c.local.new.out did)
     (λ did. (bound : ℕ) → AreWithin bound (ages_in old) → RiseWithin bound (bound + 1) (ages_in new) did) (λ did. IsDoneAt nodes _ c.args.node input 0 c.local.new.out.list did)
-    (λ did acts within. done-at c.args.cfg nodes c.args.node old new input 0 [] c.args.out.now c.local.new.out did there c.requires.nothing c.local.ensures.kept acts (λ bound young _. within bound young)) c.local.ensures.done c.local.ensures.within
+    (λ did acts within. done-at c.args.cfg nodes c.args.node old new input 0 [] c.args.out.now c.local.new.out did there c.number-kept.ensures.kept c.requires.nothing c.local.ensures.kept acts (λ bound young _. within bound young)) c.local.ensures.done c.local.ensures.within
 
 pub returns-clause-sent : goal.returns-clause-sent
 returns-clause-sent c =

@@ -25,7 +25,7 @@ returns-in-Hit-clause-ok c =
     let way = lane_in c.args.lanes.now in
     subst (λ (e : Event). IfOk c.act_alone.result (λ made. IsAct c.args.cfg nodes nodes' way e c.act_alone.new.out.list made)) (sym c.in-Hit.is)
     (IfOk-weaker c.act_alone.result (λ made. IsAlone c.args.cfg nodes nodes' c.in-Hit.node (input_of own.Hit true) c.act_alone.new.out.list made) (λ made. IsAct c.args.cfg nodes nodes' way (Hit c.in-Hit.node) c.act_alone.new.out.list made)
-    (λ made alone. own-act c.args.cfg nodes nodes' way (Hit c.in-Hit.node) c.in-Hit.node (input_of own.Hit true) c.act_alone.new.out.list made c.requires.nodes refl refl refl (subst (IsEventOf c.args.cfg) c.in-Hit.is c.requires.of_machine) alone) c.act_alone.ensures.ok)
+    (λ made alone. own-act c.args.cfg nodes nodes' way (Hit c.in-Hit.node) c.in-Hit.node (input_of own.Hit true) c.act_alone.new.out.list made c.requires.nodes refl refl refl refl refl (subst (IsEventOf c.args.cfg) c.in-Hit.is c.requires.of_machine) alone) c.act_alone.ensures.ok)
 
 pub returns-in-Hit-clause-err : goal.returns-in-Hit-clause-err
 returns-in-Hit-clause-err c =
@@ -42,7 +42,7 @@ returns-in-Issue-clause-ok c =
     let way = lane_in c.args.lanes.now in
     subst (λ (e : Event). IfOk c.act_alone-in-Issue.result (λ made. IsAct c.args.cfg nodes nodes' way e c.act_alone-in-Issue.new.out.list made)) (sym c.in-Issue.is)
     (IfOk-weaker c.act_alone-in-Issue.result (λ made. IsAlone c.args.cfg nodes nodes' c.in-Issue.node (input_of own.Issue true) c.act_alone-in-Issue.new.out.list made) (λ made. IsAct c.args.cfg nodes nodes' way (Issue c.in-Issue.node) c.act_alone-in-Issue.new.out.list made)
-    (λ made alone. own-act c.args.cfg nodes nodes' way (Issue c.in-Issue.node) c.in-Issue.node (input_of own.Issue true) c.act_alone-in-Issue.new.out.list made c.requires.nodes refl refl refl (subst (IsEventOf c.args.cfg) c.in-Issue.is c.requires.of_machine) alone) c.act_alone-in-Issue.ensures.ok)
+    (λ made alone. own-act c.args.cfg nodes nodes' way (Issue c.in-Issue.node) c.in-Issue.node (input_of own.Issue true) c.act_alone-in-Issue.new.out.list made c.requires.nodes refl refl refl refl refl (subst (IsEventOf c.args.cfg) c.in-Issue.is c.requires.of_machine) alone) c.act_alone-in-Issue.ensures.ok)
 
 pub returns-in-Issue-clause-err : goal.returns-in-Issue-clause-err
 returns-in-Issue-clause-err c =
@@ -64,7 +64,7 @@ returns-in-Evict-clause-ok c =
     let is = ap (λ r. answer c.args.cfg (programs_of (programs_in nodes)) (state_of c.args.cfg nodes way) (ages_of nodes way) (at_node c.in-Evict.node (input_of (own.Evict c.in-Evict.line c.in-Evict.kind) r))) (sym room_is) in
     subst (λ (e : Event). IfOk c.act_alone-in-Evict.result (λ made. IsAct c.args.cfg nodes nodes' way e c.act_alone-in-Evict.new.out.list made)) (sym c.in-Evict.is)
     (IfOk-weaker c.act_alone-in-Evict.result (λ made. IsAlone c.args.cfg nodes nodes' c.in-Evict.node (input_of (own.Evict c.in-Evict.line c.in-Evict.kind) room) c.act_alone-in-Evict.new.out.list made) (λ made. IsAct c.args.cfg nodes nodes' way (Evict c.in-Evict.node c.in-Evict.line c.in-Evict.kind) c.act_alone-in-Evict.new.out.list made)
-    (λ made alone. own-act c.args.cfg nodes nodes' way (Evict c.in-Evict.node c.in-Evict.line c.in-Evict.kind) c.in-Evict.node (input_of (own.Evict c.in-Evict.line c.in-Evict.kind) room) c.act_alone-in-Evict.new.out.list made c.requires.nodes is refl refl (let e = subst (IsEventOf c.args.cfg) c.in-Evict.is c.requires.of_machine in e.0) alone) c.act_alone-in-Evict.ensures.ok)
+    (λ made alone. own-act c.args.cfg nodes nodes' way (Evict c.in-Evict.node c.in-Evict.line c.in-Evict.kind) c.in-Evict.node (input_of (own.Evict c.in-Evict.line c.in-Evict.kind) room) c.act_alone-in-Evict.new.out.list made c.requires.nodes is refl refl refl refl (let e = subst (IsEventOf c.args.cfg) c.in-Evict.is c.requires.of_machine in e.0) alone) c.act_alone-in-Evict.ensures.ok)
 
 pub returns-in-Evict-clause-err : goal.returns-in-Evict-clause-err
 returns-in-Evict-clause-err c =
@@ -87,7 +87,7 @@ returns-in-Reclaim-clause-ok c =
     let is = ap (λ n. answer c.args.cfg (programs_of (programs_in nodes)) (state_of c.args.cfg nodes way) (ages_of nodes way) (at_node n (input_of (own.Reclaim c.in-Reclaim.line) true))) (sym c.home_of-home.ensures.value) in
     subst (λ (e : Event). IfOk c.act_alone-in-Reclaim.result (λ made. IsAct c.args.cfg nodes nodes' way e c.act_alone-in-Reclaim.new.out.list made)) (sym c.in-Reclaim.is)
     (IfOk-weaker c.act_alone-in-Reclaim.result (λ made. IsAlone c.args.cfg nodes nodes' c.home_of-home.result (input_of (own.Reclaim c.in-Reclaim.line) true) c.act_alone-in-Reclaim.new.out.list made) (λ made. IsAct c.args.cfg nodes nodes' way (Reclaim c.in-Reclaim.line) c.act_alone-in-Reclaim.new.out.list made)
-    (λ made alone. own-act c.args.cfg nodes nodes' way (Reclaim c.in-Reclaim.line) c.home_of-home.result (input_of (own.Reclaim c.in-Reclaim.line) true) c.act_alone-in-Reclaim.new.out.list made c.requires.nodes is refl refl c.home_of-home.ensures.below alone) c.act_alone-in-Reclaim.ensures.ok)
+    (λ made alone. own-act c.args.cfg nodes nodes' way (Reclaim c.in-Reclaim.line) c.home_of-home.result (input_of (own.Reclaim c.in-Reclaim.line) true) c.act_alone-in-Reclaim.new.out.list made c.requires.nodes is refl refl refl refl c.home_of-home.ensures.below alone) c.act_alone-in-Reclaim.ensures.ok)
 
 pub returns-in-Reclaim-clause-err : goal.returns-in-Reclaim-clause-err
 returns-in-Reclaim-clause-err c =

@@ -10,8 +10,10 @@ use Rattle.op_model.specs.MessageWords.{IsMsgOf, words_behind}
 use Rattle.eager_model.specs.Node.{local}
 use Rattle.eager_home.specs.Aged.{AgedActs, AreWithin}
 use Rattle.eager_home.specs.Views.{RiseWithin, ages_in}
-use Rattle.eager_machine.specs.Acts.{AreSent, FillsLine, IsDoneAt, IsRefusedAt}
-use Rattle.eager_machine.proofs.Answered.{if-both, sends-room, sent-now, done-at, rise-more, fills-line}
+use Rattle.machine.specs.Acts.{FillsLine}
+use Rattle.eager_machine.specs.Acts.{AreSent, IsDoneAt, IsRefusedAt}
+use Rattle.machine.proofs.Doing.{sends-room}
+use Rattle.eager_machine.proofs.Answered.{if-both, sent-now, done-at, rise-more, fills-line}
 use Rattle.eager_machine.proofs.NodeLists.{node-there, meets-at}
 use Rattle.eager_machine.proofs.acts.do_take.Goals as goal
 
@@ -38,7 +40,7 @@ pub take-requires-clause-space : goal.take-requires-clause-space
 take-requires-clause-space c =
     let old = c.index_mut-node.result.now in
     let there = node-there c.args.cfg c.args.nodes.now.items c.args.dst old old c.requires.nodes c.requires.to c.index_mut-node.ensures.value in
-    sends-room c.args.cfg c.args.dst old c.args.out.now (c.requires.nodes.each c.args.dst old there) c.requires.nothing
+    sends-room c.args.cfg old.sizes c.args.out.now (c.requires.nodes.each c.args.dst old there).same_sizes c.requires.nothing
 
 pub returns-clause-ok : goal.returns-clause-ok
 returns-clause-ok c =
@@ -50,7 +52,7 @@ returns-clause-ok c =
     let there = node-there c.args.cfg nodes c.args.dst old old c.requires.nodes c.requires.to c.index_mut-node.ensures.value in
     if-both c.take.result (λ did. AgedActs old.sizes old.number old.program brought old.share (ages_in old) input c.args.age new.share (ages_in new) c.args.out.now c.take.new.out did)
     (λ did. (bound : ℕ) → AreWithin bound (ages_in old) → c.args.age ≤ bound → RiseWithin bound bound (ages_in new) did) (λ did. IsDoneAt nodes _ c.args.dst input c.args.age c.take.new.out.list did)
-    (λ did acts within. done-at c.args.cfg nodes c.args.dst old new input c.args.age brought c.args.out.now c.take.new.out did there c.requires.nothing c.take.ensures.kept acts (λ bound young of. rise-more bound new did (within bound young of))) c.take.ensures.done c.take.ensures.within
+    (λ did acts within. done-at c.args.cfg nodes c.args.dst old new input c.args.age brought c.args.out.now c.take.new.out did there c.number-kept.ensures.kept c.requires.nothing c.take.ensures.kept acts (λ bound young of. rise-more bound new did (within bound young of))) c.take.ensures.done c.take.ensures.within
 
 pub returns-clause-sent : goal.returns-clause-sent
 returns-clause-sent c =

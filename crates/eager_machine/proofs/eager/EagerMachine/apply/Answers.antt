@@ -5,7 +5,8 @@ use Rattle.op_model.specs.Run.Machines.{IsEventOf}
 use Rattle.eager_machine.specs.Journals.{served_in}
 use Rattle.eager_machine.specs.Machines.{EagerMachineView, IsNext}
 use Rattle.eager_machine.specs.Outboxes.{under_way}
-use Rattle.eager_machine.proofs.Views.{view_by, view-next, view-history}
+use Rattle.eager_machine.proofs.Promised.{keeps-own}
+use Rattle.eager_machine.proofs.Views.{view_by, view-machine, view-next}
 use Rattle.eager_machine.proofs.eager.EagerMachine.apply.Goals as goal
 
 pub returns-clause-next : goal.returns-clause-next
@@ -19,11 +20,11 @@ returns-clause-next c =
     (λ _ more. view-next run.cfg run.nodes.items (under_way run.lanes run.out) run.journal.events.items (served_in run.journal.served.items) c.args.self.now c.self.invariant.kept c.self.view_is
     new c.args.event _ made.cfg made.programs more made.kept.kept.ran of past ran) made.ok
 
-pub returns-clause-history : goal.returns-clause-history
-returns-clause-history c =
+pub returns-clause-keeps : goal.returns-clause-keeps
+returns-clause-keeps c =
     let after = c.apply.new.self in
-    let kept = c.apply.ensures.kept.kept in
-    λ past line ran. view-history after.cfg after.nodes.items (under_way after.lanes after.out) after.journal.events.items (served_in after.journal.served.items) (view_by after.cfg after.nodes.items after.journal.events.items) kept refl past line ran
+    let new : EagerMachineView = view_by after.cfg after.nodes.items after.journal.events.items in
+    keeps-own new (view-machine after.cfg after.nodes.items (under_way after.lanes after.out) after.journal.events.items (served_in after.journal.served.items) new c.apply.ensures.kept.kept refl)
 
 pub returns-clause-ran : goal.returns-clause-ran
 returns-clause-ran c = (_, c.apply.ensures.kept.kept.ran)

@@ -6,4 +6,4 @@ pub returns : goal.returns
 returns c =
     let f = c.self.inside in
     let r = rw (← c.self.view_is) at c.requires in
-    rw (← c.self.view_is) (lane-read (record { sizes = f.cfg; lists = f.queues.items }) c.self.invariant c.args.src c.args.dst c.args.class r.from r.to c.lane_number.result c.lane_number.ensures.value c.index.result.now c.index.result.now c.index.ensures)
+    rw (← c.self.view_is) (lane-read (record { sizes = f.cfg; lists = f.queues.items }) c.self.invariant.count c.args.src c.args.dst c.args.class r.from r.to c.lane_number.result c.lane_number.ensures.value c.index.result.now c.index.result.now c.index.ensures)
