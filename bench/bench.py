@@ -72,6 +72,9 @@ def rows():
             yield f"run, {nodes} nodes, {count} operations", "run", partial(traces.shared, nodes, count, 2048)
     for count in (25000, 50000, 100000):
         yield f"bits serial, 16 nodes, {count} operations", "bits serial", partial(traces.shared, 16, count, 2048)
+    for nodes in (16, 64):
+        for count in (25000, 50000, 100000):
+            yield f"eager serial, {nodes} nodes, {count} operations", "eager serial", partial(traces.shared, nodes, count, 2048)
     for count in (25000, 50000, 100000):
         yield f"check, {count} entries", "check", partial(reported, 16, count)
     for count in (250000, 500000, 1000000):

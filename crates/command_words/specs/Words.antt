@@ -4,6 +4,7 @@ use Rattle.std.specs.Str.{bytes_eq}
 use Rattle.text_lines.specs.declared.numbers.WordCause.{WordCause}
 use Rattle.text_lines.specs.Numbers.{decimal_word}
 use Rattle.command_words.specs.declared.command.Play.TheVariants.{Serial, Seeded, Replay, Gen}
+use Rattle.command_words.specs.declared.command.EagerPlay.TheVariants as eager
 use Rattle.command_words.specs.declared.command.View.TheVariants.{At, Story}
 use Rattle.command_words.specs.declared.command.Lists.TheVariants.{Linked, Bits}
 use Rattle.command_words.specs.declared.command.Command.{Command}
@@ -44,6 +45,13 @@ over_bits_by word =
     (codes "replay", Some (asked.Play Replay Bits)) ∷
     []) word
 
+-- the same by the eager core
+abbrev pub eager_by : List ℕ → Option Command
+eager_by word =
+    meant_by ((codes "serial", Some (asked.Eager eager.Serial)) ∷
+    (codes "replay", Some (asked.Eager eager.Replay)) ∷
+    []) word
+
 -- The command that words name, which are matched whole. None where they are no form of a command
 abbrev pub command_of : List (List ℕ) → Option Command
 command_of (word ∷ []) =
@@ -54,6 +62,7 @@ command_of (word ∷ []) =
 command_of (word ∷ number ∷ []) =
     meant_by ((codes "seeded", with_number (λ seed. asked.Play (Seeded seed) Linked) (decimal_word number)) ∷
     (codes "bits", over_bits_by number) ∷
+    (codes "eager", eager_by number) ∷
     (codes "at", at_by number) ∷
     (codes "story", story_by number) ∷
     []) word

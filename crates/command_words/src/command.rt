@@ -1,7 +1,7 @@
 //! Commands and their words.
 
 ghost use Rattle.std.specs.Prelude.{◌≡◌, ◌∷◌, [], map, string_bytes};
-ghost use Rattle.command_words.specs.Words.{command_of, over_bits_by, at_by, story_by};
+ghost use Rattle.command_words.specs.Words.{command_of, over_bits_by, eager_by, at_by, story_by};
 
 use text_lines::decimal;
 
@@ -33,6 +33,15 @@ pub enum View {
     Story { line: u32 },
 }
 
+/// A run of the eager core that the program makes of a trace.
+#[derive(Clone, Copy, Debug, PartialEq, Eq)]
+pub enum EagerPlay {
+    /// Runs a trace by the serial schedule, and reports.
+    Serial,
+    /// Runs the trace's own steps, and reports.
+    Replay,
+}
+
 /// How the homes list the nodes that share a line.
 #[derive(Clone, Copy, Debug, PartialEq, Eq)]
 pub enum Lists {
@@ -47,6 +56,8 @@ pub enum Lists {
 pub enum Command {
     /// Makes a run over lists of one kind, and prints it.
     Play(Play, Lists),
+    /// Makes a run of the eager core, and prints it.
+    Eager(EagerPlay),
     /// Runs the trace's own steps, and prints what is asked of that run.
     View(View),
     /// Judges a printed history by the trace before it.
@@ -70,6 +81,16 @@ fn over_bits(word: &str) -> Option<Command>
     match word {
         "serial" => Some(Command::Play(Play::Serial, Lists::Bits)),
         "replay" => Some(Command::Play(Play::Replay, Lists::Bits)),
+        _ => None,
+    }
+}
+
+fn eager(word: &str) -> Option<Command>
+    ensures { result ≡ eager_by word.now }
+{
+    match word {
+        "serial" => Some(Command::Eager(EagerPlay::Serial)),
+        "replay" => Some(Command::Eager(EagerPlay::Replay)),
         _ => None,
     }
 }
@@ -104,6 +125,7 @@ fn two_words(word: &str, number: &str) -> Option<Command>
             Some(Command::Play(Play::Seeded { seed }, Lists::Linked))
         }
         "bits" => over_bits(number),
+        "eager" => eager(number),
         "at" => at_steps(number),
         "story" => story_of_line(number),
         _ => None,
@@ -128,7 +150,7 @@ fn three_words(word: &str, count: &str, seed: &str) -> Option<Command>
 }
 
 impl Command {
-    /// The command that words name: `serial`, `seeded S`, `replay`, `gen K S`, `check`, `bits serial`, `bits replay`, `at T` or `story G`. They are matched whole. S is a decimal number below 2^64, K one up to 100,000, T one up to 1,000,000 and G one up to 4,294,967,295.
+    /// The command that words name: `serial`, `seeded S`, `replay`, `gen K S`, `check`, `bits serial`, `bits replay`, `at T`, `story G`, `eager serial` or `eager replay`. They are matched whole. S is a decimal number below 2^64, K one up to 100,000, T one up to 1,000,000 and G one up to 4,294,967,295.
     pub fn of_words(words: &[String]) -> Option<Command>
         ensures { result ≡ command_of (map string_bytes words.now) }
     {

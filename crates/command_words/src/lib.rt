@@ -3,4 +3,4 @@
 
 mod command;
 
-pub use command::{Command, Lists, Play, View};
+pub use command::{Command, EagerPlay, Lists, Play, View};

@@ -119,7 +119,7 @@ fn failing_err(rt: HostRuntime) -> Result<(), Fail> {
         assert_eq!(rt; ended.code, 1);
         assert_eq!(rt;
             Some(ended.told.as_slice()),
-            b"flash: usage: serial, seeded S, replay, run, gen K S, check, bits serial, bits replay, at T, story G\n".get(
+            b"flash: usage: serial, seeded S, replay, run, gen K S, check, bits serial, bits replay, at T, story G, eager serial, eager replay\n".get(
                 ..10 * failing
             )
         );

@@ -2,6 +2,8 @@
 #![tactic(auto)]
 
 #[cfg(test)]
+mod eager;
+#[cfg(test)]
 mod faults;
 #[cfg(test)]
 mod inputs;

@@ -12,7 +12,7 @@ use Rattle.flash_top.specs.declared.status.Status.TheVariants.{Done, Usage, BadT
 -- the texts that are always the same
 abbrev pub fixed_text : Status → List ℕ
 fixed_text Done = []
-fixed_text Usage = codes "flash: usage: serial, seeded S, replay, run, gen K S, check, bits serial, bits replay, at T, story G\n"
+fixed_text Usage = codes "flash: usage: serial, seeded S, replay, run, gen K S, check, bits serial, bits replay, at T, story G, eager serial, eager replay\n"
 fixed_text (BadTrace line cause) = []
 fixed_text TooLong = codes "flash: more than 16777216 bytes\n"
 fixed_text TooManyOps = codes "flash: more than 100000 operations\n"

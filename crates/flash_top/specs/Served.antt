@@ -17,6 +17,7 @@ use Rattle.check_command.specs.declared.refusal.CheckRefusal.TheVariants as chec
 use Rattle.check_command.specs.Checked.{IsChecked, IsUncheckable}
 use Rattle.command_words.specs.declared.command.Command.{Command}
 use Rattle.command_words.specs.declared.command.Command.TheVariants as asked
+use Rattle.command_words.specs.declared.command.EagerPlay.{EagerPlay}
 use Rattle.command_words.specs.declared.command.Lists.{Lists}
 use Rattle.command_words.specs.declared.command.Lists.TheVariants as lists
 use Rattle.command_words.specs.declared.command.Play.{Play}
@@ -29,6 +30,7 @@ use Rattle.commands.specs.declared.viewing.ViewError.{ViewError}
 use Rattle.commands.specs.declared.viewing.ViewError.TheVariants as view
 use Rattle.commands.specs.Runs.{IsOutput, IsRefusedIn}
 use Rattle.commands.specs.Views.{IsView, IsNoView}
+use Rattle.eager_command.specs.Outputs.{IsEagerOutput, IsEagerRefusedIn}
 use Rattle.run_text.specs.Runs.{IsRunOutput}
 use Rattle.flash_top.specs.declared.status.Status.{Status}
 use Rattle.flash_top.specs.declared.status.Status.TheVariants.{Done, Usage, BadTrace, TooLong, TooManyOps, TooManySteps, ReadFault, WriteFault, Memory, NotEnabled, IllegalHistory, TooFar, NoLine}
@@ -92,6 +94,12 @@ pub record PlaysText (play : Play) (kind : Lists) (source : SourceSeen) (text : 
   pub input : IsInput play source trace
   pub right : IsOutput play (charge_of kind) trace text
 
+-- the trace that the source has is played by the eager core, and this is the text of its run
+pub record PlaysEagerText (play : EagerPlay) (source : SourceSeen) (text : List ℕ) : Type 0 where
+  pub trace : Trace
+  pub input : Reads source (λ bytes. trace_of bytes ≡ Ok trace)
+  pub right : IsEagerOutput play trace text
+
 -- this text is what is shown of the trace that the source has
 pub record ShowsText (shown : View) (source : SourceSeen) (text : List ℕ) : Type 0 where
   pub trace : Trace
@@ -101,6 +109,7 @@ pub record ShowsText (shown : View) (source : SourceSeen) (text : List ℕ) : Ty
 -- what a command writes of what its source had
 abbrev pub IsTextOf : Command → SourceSeen → List ℕ → Type 0
 IsTextOf (asked.Play play kind) source text = PlaysText play kind source text
+IsTextOf (asked.Eager play) source text = PlaysEagerText play source text
 IsTextOf (asked.View shown) source text = ShowsText shown source text
 IsTextOf asked.Check source text = Reads source (λ bytes. IsChecked bytes text)
 
@@ -142,6 +151,16 @@ abbrev pub IsUnplayed : Status → Play → Lists → SourceSeen → Type 0
 IsUnplayed (NotEnabled step cause) play kind source = IsHalted play kind source step cause
 IsUnplayed status play kind source = IsNoInput status play source
 
+-- the step of this number of the trace that the source has is the first that isn't enabled in the eager core, for this cause
+pub record IsEagerHalted (play : EagerPlay) (source : SourceSeen) (step : ℕ) (cause : Cause) : Type 0 where
+  pub trace : Trace
+  pub input : Reads source (λ bytes. trace_of bytes ≡ Ok trace)
+  pub refused : IsEagerRefusedIn play trace step cause
+
+abbrev pub IsEagerUnplayed : Status → EagerPlay → SourceSeen → Type 0
+IsEagerUnplayed (NotEnabled step cause) play source = IsEagerHalted play source step cause
+IsEagerUnplayed status play source = IsUnreadable IsNoTrace status source
+
 -- nothing is shown of the trace that the source has, for this cause
 pub record ShowsNone (shown : View) (source : SourceSeen) (cause : ViewError) : Type 0 where
   pub trace : Trace
@@ -161,6 +180,7 @@ IsUnchecked status source = IsUnreadable IsNoReport status source
 -- why a command writes no text, and so the call ended. Want of memory may come at any place before the first byte is written
 abbrev pub HasNoText : Status → Command → SourceSeen → Type 0
 HasNoText status (asked.Play play kind) source = IsUnplayed status play kind source
+HasNoText status (asked.Eager play) source = IsEagerUnplayed status play source
 HasNoText status (asked.View shown) source = IsUnshown status shown source
 HasNoText status asked.Check source = IsUnchecked status source
 

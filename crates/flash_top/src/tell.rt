@@ -21,7 +21,7 @@ fn fixed(status: Status) -> &'static str
         | Status::TooFar { .. }
         | Status::NoLine { .. } => "",
         Status::Usage =>
-            "flash: usage: serial, seeded S, replay, run, gen K S, check, bits serial, bits replay, at T, story G\n",
+            "flash: usage: serial, seeded S, replay, run, gen K S, check, bits serial, bits replay, at T, story G, eager serial, eager replay\n",
         Status::TooLong => "flash: more than 16777216 bytes\n",
         Status::TooManyOps => "flash: more than 100000 operations\n",
         Status::TooManySteps => "flash: more than 1000000 steps\n",

@@ -9,14 +9,15 @@ ghost use Rattle.flash_top.specs.Faults.{fault_text};
 ghost use Rattle.trace_text.specs.Reading.{trace_of};
 ghost use Rattle.check_command.specs.Checked.{IsChecked};
 ghost use Rattle.commands.specs.Runs.{IsOutput, IsStoppedIn};
-ghost use Rattle.flash_top.specs.Served.{Reads, IsInput, IsNoInput, IsNoTrace, IsUnreadable, PlaysText, charge_of, IsUnplayed, ShowsText, IsUnshown, IsUnchecked, IsTextOf, HasNoText, IsServed, IsRight, RunsText, IsRunServed, is_run as is_run_of, IsRightWithThreads, status_of_stop, status_of_refusal, status_of_replay, status_of_view, status_of_check};
+ghost use Rattle.flash_top.specs.Served.{Reads, IsInput, IsNoInput, IsNoTrace, IsUnreadable, PlaysText, charge_of, IsUnplayed, PlaysEagerText, IsEagerUnplayed, ShowsText, IsUnshown, IsUnchecked, IsTextOf, HasNoText, IsServed, IsRight, RunsText, IsRunServed, is_run as is_run_of, IsRightWithThreads, status_of_stop, status_of_refusal, status_of_replay, status_of_view, status_of_check};
 
 use crate::status::Status;
 use crate::tell::tell;
 use byte_io::{ReadStop, Sink, Source, read_all, write_all};
 use check_command::{CheckRefusal, check_text};
-use command_words::{Command, Lists, Play, View};
+use command_words::{Command, EagerPlay, Lists, Play, View};
 use commands::{ReplayError, ViewError, bits_text, command_text, view_text};
+use eager_command::eager_text;
 use run_text::{Gate, run_text};
 use std::alloc::Global;
 use std::sync::Wait;
@@ -172,6 +173,32 @@ fn played<S: Source>(
     }
 }
 
+/// The text of the eager core's run of the trace that a source has, which is read to its end.
+fn eager<S: Source>(alloc: Global, play: EagerPlay, source: &mut S) -> Result<Vec<u8>, Status>
+    ensures ok { IfOk result (λ text. PlaysEagerText play
+        (record {
+          left_before = S.left source.old;
+          left_after = S.left source.new;
+          faults_before = S.faults source.old;
+          faults_after = S.faults source.new;
+        })
+        text.items) }
+    ensures err { IfErr result (λ status. IsEagerUnplayed status play
+        (record {
+          left_before = S.left source.old;
+          left_after = S.left source.new;
+          faults_before = S.faults source.old;
+          faults_after = S.faults source.new;
+        })) }
+    ensures faults { S.faults source.old ≤ S.faults source.new }
+{
+    let trace = read_in(alloc, source)?;
+    match eager_text(alloc, play, &trace) {
+        Ok(text) => Ok(text),
+        Err(error) => Err(halted(error)),
+    }
+}
+
 /// The text of what is shown of the trace that a source has, which is read to its end.
 fn shown<S: Source>(alloc: Global, view: View, source: &mut S) -> Result<Vec<u8>, Status>
     ensures ok { IfOk result (λ text. ShowsText view
@@ -248,6 +275,7 @@ fn text_of<S: Source>(alloc: Global, command: Command, source: &mut S) -> Result
 {
     match command {
         Command::Play(play, lists) => played(alloc, play, lists, source),
+        Command::Eager(play) => eager(alloc, play, source),
         Command::View(view) => shown(alloc, view, source),
         Command::Check => checked(alloc, source),
     }
@@ -286,7 +314,7 @@ fn serve<S: Source, K: Sink>(
     }
 }
 
-/// The program: `words` are its words without the program's name, and name a command. `serial`, `seeded S` and `replay` read a trace from the source, to its end, run it and write the report of the run to the sink; `gen K S` generates a trace, runs it and writes its summary; `bits serial` and `bits replay` do as `serial` and `replay` over bit vectors in the place of linked lists; `at T` reads a trace, makes its first T steps and writes the whole state behind them; `story G` reads a trace, makes all its steps and writes every header that line G has had; `check` reads a trace and the report behind it, and writes how many entries its history has, where it is good. On every status but Done the status's text goes to `err`; where a write to it fails the rest of the text is left out, and the status stays.
+/// The program: `words` are its words without the program's name, and name a command. `serial`, `seeded S` and `replay` read a trace from the source, to its end, run it and write the report of the run to the sink; `gen K S` generates a trace, runs it and writes its summary; `bits serial` and `bits replay` do as `serial` and `replay` over bit vectors in the place of linked lists; `eager serial` and `eager replay` read a trace, run it by the eager core and write the text of that run; `at T` reads a trace, makes its first T steps and writes the whole state behind them; `story G` reads a trace, makes all its steps and writes every header that line G has had; `check` reads a trace and the report behind it, and writes how many entries its history has, where it is good. On every status but Done the status's text goes to `err`; where a write to it fails the rest of the text is left out, and the status stays.
 pub fn plain_main<S: Source, K: Sink, F: Sink>(
     alloc: Global,
     words: &[String],

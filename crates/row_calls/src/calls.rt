@@ -40,7 +40,7 @@ pub fn call(
 pub fn ends_within(alloc: Global, words: &str, input: &[u8], room: usize) -> Result<Ended, Fail> {
     let mut source = MemSource::new(input.to_vec(alloc)?, 4096, Vec::new(alloc));
     let mut sink = MemSink::new(alloc, room, 65536, Vec::new(alloc))?;
-    let mut err = MemSink::new(alloc, 128, 128, Vec::new(alloc))?;
+    let mut err = MemSink::new(alloc, 256, 256, Vec::new(alloc))?;
     call(alloc, words, &mut source, &mut sink, &mut err)
 }
 

@@ -27,7 +27,7 @@ pub(crate) fn ends<R: Threads + Wait + Sync, G: Gate + Sync>(
     words.push(String::from_str(alloc, word)?)?;
     let mut source = MemSource::new(input.to_vec(alloc)?, 4096, Vec::new(alloc));
     let mut sink = MemSink::new(alloc, room, 65536, Vec::new(alloc))?;
-    let mut err = MemSink::new(alloc, 128, 128, Vec::new(alloc))?;
+    let mut err = MemSink::new(alloc, 256, 256, Vec::new(alloc))?;
     let status = run_main(rt, alloc, &words, &mut source, &mut sink, &mut err, gate);
     Ok(Ended {
         code: status.code(),
