@@ -18,5 +18,5 @@ fn two_picks<F: Choice + Drop>(f: F) -> (u32, u32)
 fn remainders(rt: HostRuntime) {
     let picked = two_picks(|w, n| (w % u64::from(n)) as u32);
     prove!(picked == (1, 0));
-    assert_eq!(rt; picked, (1, 0));
+    assert!(rt; picked == (1, 0));
 }

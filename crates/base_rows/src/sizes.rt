@@ -1,5 +1,6 @@
 //! The limits of a machine's sizes and the address map, on values from the description of the machine.
 
+use crate::agree::agree;
 use line_map::{BadAddr, Body, Field, Machine, OutOfRange};
 use std::test::Fail;
 
@@ -24,12 +25,12 @@ fn machine_of(sizes: Sizes) -> Result<Machine, OutOfRange> {
 
 #[test]
 fn sizes(rt: HostRuntime) {
-    for (sizes, field, value) in REFUSED.iter() {
+    for (row, (sizes, field, value)) in REFUSED.iter().enumerate() {
         match machine_of(*sizes) {
-            Ok(_) => assert!(rt; false, "{field:?} {value}"),
+            Ok(_) => panic!(rt; "row {row}: no size is refused"),
             Err(error) => {
-                assert_eq!(rt; error.field, *field);
-                assert_eq!(rt; error.value, *value);
+                agree(&rt, row, "field", error.field, *field);
+                agree(&rt, row, "value", error.value, *value);
             }
         }
     }
@@ -45,9 +46,12 @@ fn addresses(rt: HostRuntime) -> Result<(), Fail> {
     let Ok(last) = machine.check_addr(0x38) else {
         return Err(Fail::new("refused"));
     };
+    assert!(rt; last.word() == 7);
+    assert!(rt; machine.word_of(last) == 1);
     let line = machine.line_of(last);
-    assert_eq!(rt; (last.word(), line, machine.word_of(last)), (7, 3, 1));
-    assert_eq!(rt; (machine.home_of(line), machine.set_of(line)), (1, 0));
+    assert!(rt; line == 3);
+    assert!(rt; machine.home_of(line) == 1);
+    assert!(rt; machine.set_of(line) == 0);
     Ok(())
 }
 
@@ -55,5 +59,6 @@ fn addresses(rt: HostRuntime) -> Result<(), Fail> {
 fn bodies(rt: HostRuntime) {
     let mut body = Body::zeros(2);
     body.put(1, 9);
-    assert_eq!(rt; (body.get(0), body.get(1)), (0, 9));
+    assert!(rt; body.get(0) == 0);
+    assert!(rt; body.get(1) == 9);
 }

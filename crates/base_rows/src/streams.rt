@@ -2,12 +2,14 @@
 
 ghost use Rattle.std.specs.Prelude.{◌<◌};
 
+use crate::agree::agree;
 use byte_io::{
     Failed, MOST_BYTES, MemSink, MemSource, ReadStop, Sink, Source, StdSink, StdSource, read_all,
     write_all, write_pieces,
 };
-use std::alloc::Global;
+use std::alloc::{AllocError, Global};
 use std::io::{self, Error, ErrorKind, Read, Write};
+use std::process::Abort;
 use std::test::Fail;
 
 const TEXT: &[u8] = b"abcdefghijklmnopqrstuvwxy";
@@ -81,24 +83,40 @@ const READS: [ReadRow; 7] = [
     },
 ];
 
+fn source_of(alloc: Global, row: &ReadRow) -> Result<MemSource, AllocError>
+    requires { 0 < row.now.piece }
+{
+    let bytes = TEXT.to_vec(alloc)?;
+    let failing = row.failing.to_vec(alloc)?;
+    Ok(MemSource::new(bytes, row.piece, failing))
+}
+
+// Why reading the whole source stops, if it does.
+fn stop_of(
+    rt: &impl Abort,
+    alloc: Global,
+    number: usize,
+    source: &mut MemSource,
+) -> Option<ReadStop> {
+    match read_all(alloc, source) {
+        Ok(bytes) => {
+            agree(rt, number, "text", bytes.as_slice(), TEXT);
+            None
+        }
+        Err(stop) => Some(stop),
+    }
+}
+
 #[test]
 fn reads_whole(rt: HostRuntime) -> Result<(), Fail> {
-    for row in &READS {
+    for (number, row) in READS.iter().enumerate() {
         assert!(rt; row.piece > 0);
-        let bytes = TEXT.to_vec(rt.alloc())?;
-        let failing = row.failing.to_vec(rt.alloc())?;
-        let mut source = MemSource::new(bytes, row.piece, failing);
-        let stop = match read_all(rt.alloc(), &mut source) {
-            Ok(bytes) => {
-                assert_eq!(rt; bytes.as_slice(), TEXT);
-                None
-            }
-            Err(stop) => Some(stop),
-        };
-        assert_eq!(rt; stop, row.stop);
-        assert_eq!(rt; source.left().len(), row.left);
-        assert_eq!(rt; source.calls(), row.calls);
-        assert_eq!(rt; source.faults(), row.faults);
+        let mut source = source_of(rt.alloc(), row)?;
+        let stop = stop_of(&rt, rt.alloc(), number, &mut source);
+        agree(&rt, number, "stop", stop, row.stop);
+        agree(&rt, number, "bytes left", source.left().len(), row.left);
+        agree(&rt, number, "calls", source.calls(), row.calls);
+        agree(&rt, number, "faults", source.faults(), row.faults);
     }
     Ok(())
 }
@@ -109,23 +127,30 @@ fn reads_on_after_a_fault(rt: HostRuntime) -> Result<(), Fail> {
     let mut source = MemSource::new(TEXT.to_vec(rt.alloc())?, 10, [1].to_vec(rt.alloc())?);
     let first = read_all(rt.alloc(), &mut source);
     assert!(rt; matches!(first, Err(ReadStop::Fault)));
-    let rest = read_all(rt.alloc(), &mut source).map_err(|_| "a second fault")?;
-    assert_eq!(rt; rest.as_slice(), b"klmnopqrstuvwxy".as_slice());
+    let rest = read_all(rt.alloc(), &mut source)?;
+    agree(&rt, 0, "rest", rest.as_slice(), b"klmnopqrstuvwxy");
     Ok(())
+}
+
+/// So many bytes, how many are read or why reading stops, and how many are left.
+const LENGTHS: [(usize, Result<usize, ReadStop>, usize); 2] = [
+    (MOST_BYTES, Ok(16_777_216), 0),
+    (MOST_BYTES + 3, Err(ReadStop::TooLong), 2),
+];
+
+fn length_read(alloc: Global, source: &mut MemSource) -> Result<usize, ReadStop> {
+    Ok(read_all(alloc, source)?.len())
 }
 
 #[test]
 fn stops_where_the_bytes_are_too_many(rt: HostRuntime) -> Result<(), Fail> {
-    let most = vec![in rt.alloc(); 35u8; MOST_BYTES]?;
-    let mut source = MemSource::new(most, 1_000_000, Vec::new(rt.alloc()));
-    let bytes = read_all(rt.alloc(), &mut source).map_err(|_| "no limit is passed")?;
-    assert_eq!(rt; bytes.len(), 16_777_216);
-
-    let more = vec![in rt.alloc(); 35u8; MOST_BYTES + 3]?;
-    let mut source = MemSource::new(more, 1_000_000, Vec::new(rt.alloc()));
-    let stop = read_all(rt.alloc(), &mut source);
-    assert!(rt; matches!(stop, Err(ReadStop::TooLong)));
-    assert_eq!(rt; source.left().len(), 2);
+    for (number, (count, read, left)) in LENGTHS.iter().enumerate() {
+        let bytes = vec![in rt.alloc(); 35u8; *count]?;
+        let mut source = MemSource::new(bytes, 1_000_000, Vec::new(rt.alloc()));
+        let found = length_read(rt.alloc(), &mut source);
+        agree(&rt, number, "length", found, *read);
+        agree(&rt, number, "bytes left", source.left().len(), *left);
+    }
     Ok(())
 }
 
@@ -243,29 +268,40 @@ fn sink_of(alloc: Global, row: &WriteRow) -> Result<MemSink, Fail>
     Ok(MemSink::new(alloc, row.room, row.piece, failing)?)
 }
 
+// What the sink has come to, and how the writing ended.
+fn wrote(
+    rt: &impl Abort,
+    number: usize,
+    row: &WriteRow,
+    sink: &MemSink,
+    ended: Result<(), Failed>,
+) {
+    agree(rt, number, "result", ended, row.result);
+    agree(rt, number, "text", sink.bytes(), row.written);
+    agree(rt, number, "calls", sink.calls(), row.calls);
+    agree(rt, number, "faults", sink.faults(), row.faults);
+}
+
 #[test]
 fn writes_whole(rt: HostRuntime) -> Result<(), Fail> {
-    for row in &WRITES {
+    for (number, row) in WRITES.iter().enumerate() {
         assert!(rt; row.piece > 0);
         let mut sink = sink_of(rt.alloc(), row)?;
-        assert_eq!(rt; write_all(&mut sink, TEXT), row.result);
-        assert_eq!(rt; sink.bytes(), row.written);
-        assert_eq!(rt; sink.calls(), row.calls);
-        assert_eq!(rt; sink.faults(), row.faults);
+        let result = write_all(&mut sink, TEXT);
+        wrote(&rt, number, row, &sink, result);
     }
     Ok(())
 }
 
+const PIECES: [&[u8]; 4] = [b"abcdefghijkl", b"", b"mnopqrstuvwxy", b""];
+
 #[test]
 fn writes_pieces(rt: HostRuntime) -> Result<(), Fail> {
-    for row in &IN_PIECES {
+    for (number, row) in IN_PIECES.iter().enumerate() {
         assert!(rt; row.piece > 0);
         let mut sink = sink_of(rt.alloc(), row)?;
-        let pieces: [&[u8]; 4] = [b"abcdefghijkl", b"", b"mnopqrstuvwxy", b""];
-        assert_eq!(rt; write_pieces(&mut sink, &pieces), row.result);
-        assert_eq!(rt; sink.bytes(), row.written);
-        assert_eq!(rt; sink.calls(), row.calls);
-        assert_eq!(rt; sink.faults(), row.faults);
+        let result = write_pieces(&mut sink, &PIECES);
+        wrote(&rt, number, row, &sink, result);
     }
     Ok(())
 }
@@ -274,40 +310,32 @@ fn writes_pieces(rt: HostRuntime) -> Result<(), Fail> {
 #[test]
 fn writes_nothing(rt: HostRuntime) -> Result<(), Fail> {
     let mut sink = MemSink::new(rt.alloc(), 0, 1, Vec::new(rt.alloc()))?;
-    assert_eq!(rt; sink.write(b""), Ok(0));
-    assert_eq!(rt; write_all(&mut sink, b""), Ok(()));
-    assert_eq!(rt; sink.calls(), 1);
-    assert_eq!(rt; sink.faults(), 0);
+    agree(&rt, 0, "write", sink.write(b""), Ok(0));
+    agree(&rt, 0, "result", write_all(&mut sink, b""), Ok(()));
+    assert!(rt; sink.calls() == 1);
+    assert!(rt; sink.faults() == 0);
     Ok(())
 }
 
-/// A reader and a writer that fail.
+/// A reader that fails, and a writer that takes nothing or fails.
 #[derive(Drop)]
-struct Broken;
+enum Faulty {
+    Broken,
+    Stuck,
+}
 
-impl Read for Broken {
+impl Read for Faulty {
     fn read(&mut self, _buf: &mut [u8]) -> io::Result<usize> {
         Err(Error::from(ErrorKind::BrokenPipe))
     }
 }
 
-impl Write for Broken {
+impl Write for Faulty {
     fn write(&mut self, _buf: &[u8]) -> io::Result<usize> {
-        Err(Error::from(ErrorKind::BrokenPipe))
-    }
-
-    fn flush(&mut self) -> io::Result<()> {
-        Ok(())
-    }
-}
-
-/// A writer that takes nothing.
-#[derive(Drop)]
-struct Stuck;
-
-impl Write for Stuck {
-    fn write(&mut self, _buf: &[u8]) -> io::Result<usize> {
-        Ok(0)
+        match self {
+            Faulty::Broken => Err(Error::from(ErrorKind::BrokenPipe)),
+            Faulty::Stuck => Ok(0),
+        }
     }
 
     fn flush(&mut self) -> io::Result<()> {
@@ -316,27 +344,47 @@ impl Write for Stuck {
 }
 
 #[test]
-fn goes_over_std(rt: HostRuntime) -> Result<(), Fail> {
+fn reads_a_slice(rt: HostRuntime) -> Result<(), Fail> {
     let mut source = StdSource::new(TEXT);
-    let bytes = read_all(rt.alloc(), &mut source).map_err(|_| "a slice doesn't fail")?;
-    assert_eq!(rt; bytes.as_slice(), TEXT);
+    let bytes = read_all(rt.alloc(), &mut source)?;
+    agree(&rt, 0, "text", bytes.as_slice(), TEXT);
     let mut end = [0u8; 4];
-    assert_eq!(rt; source.read(&mut end), Ok(0));
-
-    let mut held: Vec<u8> = Vec::new(rt.alloc());
-    let mut sink = StdSink::new(&mut held);
-    assert_eq!(rt; write_pieces(&mut sink, &[TEXT, b"", TEXT]), Ok(()));
-    assert_eq!(rt;
-        held.as_slice(),
-        b"abcdefghijklmnopqrstuvwxyabcdefghijklmnopqrstuvwxy".as_slice()
-    );
-
-    let mut broken = StdSource::new(Broken);
-    let stop = read_all(rt.alloc(), &mut broken);
-    assert!(rt; matches!(stop, Err(ReadStop::Fault)));
-    assert_eq!(rt; write_all(&mut StdSink::new(Broken), TEXT), Err(Failed));
-    assert_eq!(rt; write_all(&mut StdSink::new(Stuck), TEXT), Err(Failed));
-    assert_eq!(rt; write_all(&mut StdSink::new(Stuck), b""), Ok(()));
-    assert_eq!(rt; StdSink::new(Stuck).write(b""), Ok(0));
+    agree(&rt, 0, "read at the end", source.read(&mut end), Ok(0));
     Ok(())
+}
+
+#[test]
+fn writes_to_a_vector(rt: HostRuntime) {
+    let mut held: Vec<u8> = Vec::new(rt.alloc());
+    let result = write_pieces(&mut StdSink::new(&mut held), &[TEXT, b"", TEXT]);
+    agree(&rt, 0, "result", result, Ok(()));
+    let twice = b"abcdefghijklmnopqrstuvwxyabcdefghijklmnopqrstuvwxy";
+    agree(&rt, 0, "text", held.as_slice(), twice);
+}
+
+#[test]
+fn reads_where_reading_fails(rt: HostRuntime) {
+    let stop = read_all(rt.alloc(), &mut StdSource::new(Faulty::Broken));
+    assert!(rt; matches!(stop, Err(ReadStop::Fault)));
+}
+
+#[test]
+fn writes_where_writing_fails(rt: HostRuntime) {
+    let result = write_all(&mut StdSink::new(Faulty::Broken), TEXT);
+    agree(&rt, 0, "result", result, Err(Failed));
+}
+
+#[test]
+fn writes_where_nothing_is_taken(rt: HostRuntime) {
+    let some = write_all(&mut StdSink::new(Faulty::Stuck), TEXT);
+    agree(&rt, 0, "result", some, Err(Failed));
+    let none = write_all(&mut StdSink::new(Faulty::Stuck), b"");
+    agree(&rt, 1, "result", none, Ok(()));
+    agree(
+        &rt,
+        2,
+        "write",
+        StdSink::new(Faulty::Stuck).write(b""),
+        Ok(0),
+    );
 }

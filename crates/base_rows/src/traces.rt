@@ -1,70 +1,83 @@
 //! A trace that is read, too many steps, and traces that are generated.
 
-use op_model::Kind;
+use crate::agree::agree;
+use op_model::{Kind, Op};
 use std::alloc::{AllocError, Global};
 use std::test::Fail;
 use trace_text::{TraceError, generate, print_trace, programs, read_trace};
 
-/// The header of version 1 of two nodes, one line each and one word a line.
-const HEADER: &str = "flash 1\nnodes 2\nlines 1\nwords 1\nlinks 1\nsets 1\npending 1\nevicts 1\n";
+/// A trace of version 2 of the greatest sizes, with skipped lines.
+const TRACE: &[u8] =
+    b"flash 2\r\n\r\nnodes 64\r\nlines 4096\r\nwords 16\r\nlinks 1\r\nsets 1\r\npending 1\r\nevicts 1\r\n0 A 0x0 5\r\n63 L 0x1FFFff8\r\n0 X 0x8 1\r\nend\r\n# test";
 
-fn behind_header(alloc: Global, rest: &str) -> Result<Vec<u8>, AllocError> {
-    let mut text = Vec::new(alloc);
-    text.extend_from_slice(HEADER.as_bytes())?;
-    text.extend_from_slice(rest.as_bytes())?;
+const OPS: [Op; 3] = [
+    Op {
+        node: 0,
+        index: 0,
+        kind: Kind::Add,
+        word: 0,
+        value: 5,
+    },
+    Op {
+        node: 63,
+        index: 0,
+        kind: Kind::Load,
+        word: 4_194_303,
+        value: 0,
+    },
+    Op {
+        node: 0,
+        index: 1,
+        kind: Kind::Swap,
+        word: 1,
+        value: 1,
+    },
+];
+
+#[test]
+fn reads_a_trace(rt: HostRuntime) -> Result<(), Fail> {
+    let trace = read_trace(rt.alloc(), TRACE)?;
+    assert!(rt; trace.version() == 2);
+    assert!(rt; trace.cfg().nodes() == 64);
+    agree(&rt, 0, "list of operations", trace.ops(), OPS.as_slice());
+    Ok(())
+}
+
+#[test]
+fn programs_of_a_trace(rt: HostRuntime) -> Result<(), Fail> {
+    let trace = read_trace(rt.alloc(), TRACE)?;
+    let programs = programs(rt.alloc(), &trace)?;
+    assert!(rt; programs.len() == 64);
+    assert!(rt; programs[0].len() == 2);
+    assert!(rt; programs[1].len() == 0);
+    assert!(rt; programs[63].len() == 1);
+    Ok(())
+}
+
+/// A trace of two nodes, one line each and one word a line, up to its steps.
+const BEFORE_STEPS: &[u8] =
+    b"flash 1\nnodes 2\nlines 1\nwords 1\nlinks 1\nsets 1\npending 1\nevicts 1\nsteps\n";
+
+fn with_steps(alloc: Global, count: u32) -> Result<Vec<u8>, AllocError> {
+    let mut text = BEFORE_STEPS.to_vec(alloc)?;
+    for _ in 0..count {
+        text.extend_from_slice(b"h 1\n")?;
+    }
+    text.extend_from_slice(b"end\n")?;
     Ok(text)
 }
 
 #[test]
-fn reads_a_trace(rt: HostRuntime) -> Result<(), Fail> {
-    let text =
-        b"flash 2\r\n\r\nnodes 64\r\nlines 4096\r\nwords 16\r\nlinks 1\r\nsets 1\r\npending 1\r\nevicts 1\r\n0 A 0x0 5\r\n63 L 0x1FFFff8\r\n0 X 0x8 1\r\nend\r\n# test";
-    let trace = read_trace(rt.alloc(), text)?;
-    assert_eq!(rt; trace.version(), 2);
-    assert_eq!(rt; trace.cfg().nodes(), 64);
-    let [first, second, third] = trace.ops() else {
-        panic!(rt; "not three operations");
-    };
-    assert_eq!(rt;
-        (first.node, first.index, first.kind, first.word, first.value),
-        (0, 0, Kind::Add, 0, 5)
-    );
-    assert_eq!(rt;
-        (
-            second.node,
-            second.index,
-            second.kind,
-            second.word,
-            second.value
-        ),
-        (63, 0, Kind::Load, 4_194_303, 0)
-    );
-    assert_eq!(rt;
-        (third.node, third.index, third.kind, third.word, third.value),
-        (0, 1, Kind::Swap, 1, 1)
-    );
-    let programs = programs(rt.alloc(), &trace)?;
-    assert_eq!(rt; programs.len(), 64);
-    assert_eq!(rt; programs[0].len(), 2);
-    assert_eq!(rt; programs[1].len(), 0);
-    assert_eq!(rt; programs[63].len(), 1);
-    Ok(())
-}
-
-#[test]
 fn counts_steps(rt: HostRuntime) -> Result<(), Fail> {
-    for (count, many) in [(1_000_000, false), (1_000_001, true)] {
-        let mut text = behind_header(rt.alloc(), "steps\n")?;
-        for _ in 0..count {
-            text.extend_from_slice(b"h 1\n")?;
-        }
-        text.extend_from_slice(b"end\n")?;
-        match read_trace(rt.alloc(), &text) {
-            Ok(trace) => assert_eq!(rt; (trace.steps().len(), many), (1_000_000, false)),
-            Err(error) => assert_eq!(rt; (error, many), (TraceError::TooManySteps, true)),
+    let trace = read_trace(rt.alloc(), &with_steps(rt.alloc(), 1_000_000)?)?;
+    assert!(rt; trace.steps().len() == 1_000_000);
+    match read_trace(rt.alloc(), &with_steps(rt.alloc(), 1_000_001)?) {
+        Ok(_) => Err(Fail::new("too many steps are read")),
+        Err(error) => {
+            agree(&rt, 0, "error", error, TraceError::TooManySteps);
+            Ok(())
         }
     }
-    Ok(())
 }
 
 /// A trace is printed as it was written, without skipped lines.
@@ -75,7 +88,7 @@ fn generates(rt: HostRuntime) -> Result<(), Fail> {
     for _ in 0..2 {
         let trace = generate(rt.alloc(), 6, 1)?;
         let text = print_trace(rt.alloc(), &trace)?;
-        assert_eq!(rt; text.as_slice(), want.as_bytes());
+        agree(&rt, 0, "text", text.as_slice(), want.as_bytes());
     }
     Ok(())
 }

@@ -1,93 +1,100 @@
 //! Where operations come one after another, the eager core reads what the delayed one reads.
 
-use rand_core::SeedableRng;
-use rand_core::utils::NextWord;
-use rand_pcg::Pcg32;
-use row_calls::{ends, trace};
-use std::alloc::Global;
+use row_calls::ends;
 use std::test::Fail;
 
-const OPERATIONS: u32 = 40;
+/// The first lines of a trace on four nodes, of which the first has the line of four words.
+const HEADER: &str = "flash 2\nnodes 4\nlines 1\nwords 4\nlinks 4\nsets 1\npending 1\nevicts 1\n";
 
-/// Puts an operation of one of four nodes on one of the four words of a line behind others: a load, a store, a swap or an add.
-fn push_op(ops: &mut String, generator: &mut Pcg32) -> Result<(), Fail> {
-    let alloc = *ops.allocator();
-    let node = generator.next_word() % 4;
-    let address = 8 * (generator.next_word() % 4);
-    let value = generator.next_word() % 100;
-    if !ops.is_empty() {
-        ops.push_str("; ")?;
-    }
-    let op = match generator.next_word() % 6 {
-        0 => format!(in alloc; "{node} S 0x{address:x} {value}")?,
-        1 => format!(in alloc; "{node} X 0x{address:x} {value}")?,
-        2 => format!(in alloc; "{node} A 0x{address:x} {value}")?,
-        _ => format!(in alloc; "{node} L 0x{address:x}")?,
-    };
-    ops.push_str(&op)?;
-    Ok(())
-}
+/// Forty random operations of four nodes on the four words of one line.
+const OPS: [&str; 8] = [
+    concat!(
+        "3 S 0x18 75\n3 L 0x8\n0 S 0x10 17\n1 L 0x10\n1 L 0x10\n3 L 0x0\n0 L 0x10\n2 L 0x10\n",
+        "1 L 0x10\n1 L 0x10\n1 X 0x10 56\n0 L 0x10\n2 L 0x10\n0 X 0x8 30\n2 X 0x8 15\n1 X 0x0 94\n",
+        "3 L 0x0\n3 A 0x18 61\n3 L 0x10\n0 S 0x8 8\n0 A 0x18 3\n0 L 0x0\n2 S 0x8 82\n3 L 0x18\n",
+        "1 L 0x0\n3 L 0x0\n2 A 0x18 3\n3 A 0x8 9\n1 L 0x8\n3 L 0x8\n2 L 0x8\n0 X 0x0 92\n",
+        "2 L 0x18\n2 X 0x18 39\n0 A 0x0 71\n3 A 0x8 17\n0 L 0x18\n2 X 0x18 48\n2 X 0x18 85\n3 L 0x10\n",
+    ),
+    concat!(
+        "2 A 0x10 17\n3 L 0x0\n0 A 0x0 7\n3 L 0x10\n2 X 0x18 61\n0 L 0x18\n3 X 0x18 22\n3 L 0x8\n",
+        "2 L 0x18\n2 X 0x10 93\n2 A 0x10 97\n2 L 0x0\n3 A 0x18 31\n2 X 0x0 74\n2 L 0x10\n2 L 0x18\n",
+        "3 A 0x10 7\n3 X 0x0 55\n2 L 0x0\n3 A 0x8 36\n2 L 0x10\n0 L 0x0\n1 X 0x0 43\n1 A 0x10 69\n",
+        "1 A 0x10 1\n1 L 0x8\n1 A 0x0 68\n0 L 0x18\n1 L 0x10\n3 L 0x10\n1 L 0x8\n2 S 0x8 74\n",
+        "1 S 0x0 11\n2 L 0x10\n0 A 0x10 60\n1 S 0x8 70\n2 A 0x8 88\n3 L 0x18\n1 L 0x10\n2 X 0x10 89\n",
+    ),
+    concat!(
+        "0 S 0x8 97\n0 L 0x18\n0 S 0x0 35\n1 X 0x10 90\n3 S 0x10 14\n2 X 0x18 74\n1 S 0x18 34\n2 L 0x10\n",
+        "0 A 0x8 4\n1 X 0x8 8\n2 L 0x0\n0 S 0x8 75\n1 L 0x10\n2 L 0x10\n2 S 0x18 86\n3 L 0x18\n",
+        "1 A 0x8 42\n0 A 0x18 29\n2 L 0x0\n3 S 0x0 90\n1 X 0x0 95\n3 L 0x8\n2 L 0x0\n1 L 0x0\n",
+        "1 L 0x10\n0 X 0x8 44\n0 A 0x18 4\n2 L 0x0\n2 L 0x10\n3 L 0x10\n3 L 0x0\n3 S 0x8 88\n",
+        "2 A 0x18 62\n1 L 0x8\n1 L 0x8\n1 X 0x8 51\n3 L 0x8\n3 L 0x10\n2 L 0x18\n2 L 0x8\n",
+    ),
+    concat!(
+        "3 A 0x18 81\n1 X 0x8 78\n0 X 0x0 98\n3 L 0x0\n3 L 0x10\n3 X 0x10 22\n2 L 0x0\n1 X 0x0 8\n",
+        "1 S 0x18 47\n1 L 0x18\n3 X 0x0 86\n2 A 0x18 74\n0 L 0x10\n0 L 0x8\n3 L 0x0\n3 L 0x10\n",
+        "0 S 0x8 44\n0 L 0x0\n3 A 0x0 81\n3 X 0x0 97\n2 A 0x10 24\n1 L 0x0\n2 L 0x18\n0 X 0x8 96\n",
+        "0 L 0x10\n1 X 0x0 89\n2 L 0x0\n3 L 0x10\n3 X 0x18 69\n3 L 0x0\n1 A 0x0 44\n0 L 0x0\n",
+        "3 L 0x10\n2 L 0x0\n2 S 0x0 34\n0 L 0x0\n2 L 0x0\n0 X 0x8 46\n2 L 0x18\n0 X 0x10 76\n",
+    ),
+    concat!(
+        "3 L 0x18\n2 L 0x8\n3 X 0x18 24\n2 L 0x18\n3 S 0x8 70\n0 L 0x10\n0 L 0x10\n2 L 0x18\n",
+        "0 L 0x18\n3 A 0x0 74\n2 L 0x8\n0 S 0x10 27\n1 L 0x10\n3 L 0x10\n3 X 0x0 6\n1 X 0x8 1\n",
+        "2 L 0x8\n3 L 0x8\n2 L 0x10\n2 X 0x8 31\n2 S 0x0 46\n3 X 0x10 9\n1 L 0x0\n3 S 0x18 9\n",
+        "3 L 0x8\n0 L 0x18\n2 L 0x18\n1 A 0x10 13\n1 X 0x8 43\n1 L 0x10\n0 L 0x10\n0 L 0x18\n",
+        "0 S 0x10 94\n1 L 0x0\n1 L 0x8\n2 L 0x10\n2 X 0x18 11\n2 L 0x0\n0 L 0x10\n0 L 0x10\n",
+    ),
+    concat!(
+        "2 X 0x0 21\n0 L 0x18\n1 X 0x0 88\n0 X 0x18 13\n1 L 0x0\n2 L 0x18\n3 X 0x0 30\n1 A 0x0 93\n",
+        "3 X 0x10 85\n0 L 0x0\n0 L 0x0\n2 S 0x0 58\n2 X 0x8 25\n2 S 0x18 16\n2 X 0x0 32\n0 A 0x0 75\n",
+        "0 X 0x10 71\n0 L 0x0\n2 S 0x0 61\n2 L 0x0\n2 L 0x8\n3 S 0x0 14\n1 L 0x18\n3 L 0x0\n",
+        "3 L 0x0\n1 L 0x10\n1 L 0x10\n0 X 0x0 40\n2 A 0x8 5\n2 L 0x18\n1 L 0x18\n3 L 0x18\n",
+        "0 L 0x10\n0 A 0x8 92\n3 L 0x8\n1 A 0x8 25\n3 S 0x0 85\n0 L 0x10\n0 L 0x0\n1 L 0x18\n",
+    ),
+    concat!(
+        "0 A 0x0 30\n2 L 0x8\n3 L 0x18\n2 X 0x10 91\n0 L 0x18\n1 X 0x8 43\n0 L 0x18\n1 S 0x8 59\n",
+        "2 X 0x8 16\n3 L 0x18\n3 X 0x18 45\n1 L 0x18\n0 L 0x0\n0 L 0x10\n3 S 0x10 53\n1 L 0x0\n",
+        "2 L 0x18\n3 L 0x8\n3 L 0x10\n2 L 0x10\n2 L 0x10\n1 L 0x18\n2 S 0x0 85\n3 L 0x18\n",
+        "3 S 0x18 39\n2 L 0x8\n3 L 0x8\n2 L 0x18\n2 X 0x0 66\n3 L 0x0\n3 L 0x18\n1 S 0x18 65\n",
+        "0 S 0x10 54\n1 A 0x0 10\n2 S 0x18 64\n3 X 0x10 65\n2 S 0x0 52\n1 S 0x10 97\n1 X 0x10 51\n1 L 0x0\n",
+    ),
+    concat!(
+        "1 S 0x10 85\n0 L 0x8\n3 L 0x0\n0 L 0x8\n2 A 0x0 53\n0 L 0x18\n1 L 0x10\n1 A 0x8 79\n",
+        "0 S 0x0 48\n2 L 0x8\n1 L 0x0\n3 L 0x18\n0 X 0x0 0\n1 L 0x0\n1 S 0x10 3\n3 A 0x10 35\n",
+        "1 L 0x10\n3 S 0x8 11\n2 S 0x10 54\n2 L 0x10\n1 L 0x10\n1 L 0x8\n0 S 0x10 64\n0 X 0x0 98\n",
+        "3 L 0x8\n2 X 0x18 43\n1 L 0x10\n2 L 0x18\n3 L 0x10\n1 A 0x8 65\n0 L 0x10\n2 L 0x10\n",
+        "0 S 0x10 58\n1 L 0x0\n3 L 0x8\n2 L 0x8\n3 L 0x18\n2 X 0x8 1\n2 S 0x18 87\n2 A 0x8 15\n",
+    ),
+];
 
-/// Random operations on one line.
-fn random_ops(alloc: Global, seed: u64) -> Result<String, Fail> {
-    let mut generator = Pcg32::seed_from_u64(seed);
-    let mut ops = String::new(alloc);
-    for _ in 0..OPERATIONS {
-        push_op(&mut ops, &mut generator)?;
-    }
-    Ok(ops)
-}
-
-/// What stands in a text between the words `history` and `lines`: a number, and the entries.
-fn history_in(text: &str) -> &str {
-    let Some((_, behind)) = text.split_once("\nhistory ") else {
-        return "";
-    };
-    let Some((history, _)) = behind.split_once("\nlines ") else {
-        return "";
-    };
-    history
-}
-
-/// A line without its first two words.
-fn without_age(line: &str) -> &str {
-    let Some((_, rest)) = line.split_once(' ') else {
-        return line;
-    };
-    let Some((_, entry)) = rest.split_once(' ') else {
-        return line;
-    };
-    entry
-}
-
-/// A history without the line and the age of each entry.
-fn without_ages(alloc: Global, history: &str) -> Result<String, Fail> {
-    let mut text = String::new(alloc);
-    for line in history.split('\n') {
-        if !text.is_empty() {
-            text.push('\n')?;
+/// Whether both texts have the same history, where in the second one the line and the age stand before each entry.
+fn are_alike(plain: &str, aged: &str) -> bool {
+    for (entry, aged_entry) in plain.split('\n').zip(aged.split('\n')).skip(2) {
+        if entry.starts_with("lines ") {
+            return aged_entry.starts_with("lines ");
         }
-        text.push_str(without_age(line))?;
+        match aged_entry.splitn(3, ' ').nth(2) {
+            Some(without_age) if without_age == entry => {}
+            _ => return false,
+        }
     }
-    Ok(text)
+    false
 }
 
 #[test]
 fn one_after_another(rt: HostRuntime) -> Result<(), Fail> {
     let alloc = rt.alloc();
-    for seed in 0..8u64 {
-        let ops = random_ops(alloc, seed)?;
-        let input = trace(alloc, "flash 2", &[4, 1, 4, 4, 1, 1, 1], &ops, None)?;
+    for ops in OPS.iter() {
+        let input = format!(in alloc; "{HEADER}{ops}end\n")?;
         let delayed = ends(alloc, "serial", input.as_bytes())?;
         let eager = ends(alloc, "eager serial", input.as_bytes())?;
-        assert_eq!(rt; delayed.code, 0);
-        assert_eq!(rt; eager.code, 0);
-        let delayed = String::from_utf8(delayed.output)?;
-        let eager = String::from_utf8(eager.output)?;
-        let history = history_in(&delayed);
-        assert!(rt; history.starts_with("40\n"));
-        let aged = without_ages(alloc, history_in(&eager))?;
-        assert_eq!(rt; aged.as_str(), history);
+        let plain = String::from_utf8(delayed.output)?;
+        let aged = String::from_utf8(eager.output)?;
+        assert!(rt; delayed.code == 0 && eager.code == 0);
+        assert!(rt;
+            plain.starts_with("flash report 2\nhistory 40\n")
+                && aged.starts_with("flash eager 1\nhistory 40\n")
+        );
+        assert!(rt; are_alike(&plain, &aged), "where the operations are {ops}");
     }
     Ok(())
 }

@@ -1,13 +1,17 @@
-//! What the rows of the book don't have: inputs that are large or cut short, devices that fail, and texts that are compared with one another.
+//! What the rows of the book don't have: inputs that are large or cut short, devices that fail, texts that are compared with one another, and runs in threads.
 #![tactic(auto)]
 
+#[cfg(test)]
+mod alike;
 #[cfg(test)]
 mod eager;
 #[cfg(test)]
 mod faults;
 #[cfg(test)]
+mod gate;
+#[cfg(test)]
 mod inputs;
 #[cfg(test)]
 mod lists;
 #[cfg(test)]
-mod schedules;
+mod runs;

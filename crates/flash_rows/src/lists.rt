@@ -4,16 +4,16 @@ use command_words::Play;
 use commands::command_text_over;
 use lane_queues::ListLanes;
 use out_space::{reply_bound, request_bound};
-use row_calls::{ends, trace};
+use row_calls::ends;
 use std::alloc::Global;
 use std::test::Fail;
 use trace_text::read_trace;
 
 /// Traces with many messages under way, on four nodes of two lines.
-const OPS: [&str; 3] = [
-    "1 S 0x0 1; 1 S 0x8 2; 2 L 0x0; 3 L 0x8; 0 S 0x8 4; 2 A 0x0 1",
-    "1 L 0x0; 2 L 0x0; 3 L 0x0; 1 L 0x8; 2 L 0x8; 3 L 0x8; 0 X 0x0 5; 3 L 0x0",
-    "0 S 0x0 3; 0 L 0x8; 1 S 0x0 5; 1 L 0x8; 2 S 0x10 1; 3 S 0x10 2; 0 L 0x10",
+const TRACES: [&str; 3] = [
+    "flash 2\nnodes 4\nlines 2\nwords 1\nlinks 2\nsets 1\npending 1\nevicts 1\n1 S 0x0 1\n1 S 0x8 2\n2 L 0x0\n3 L 0x8\n0 S 0x8 4\n2 A 0x0 1\nend\n",
+    "flash 2\nnodes 4\nlines 2\nwords 1\nlinks 2\nsets 1\npending 1\nevicts 1\n1 L 0x0\n2 L 0x0\n3 L 0x0\n1 L 0x8\n2 L 0x8\n3 L 0x8\n0 X 0x0 5\n3 L 0x0\nend\n",
+    "flash 2\nnodes 4\nlines 2\nwords 1\nlinks 2\nsets 1\npending 1\nevicts 1\n0 S 0x0 3\n0 L 0x8\n1 S 0x0 5\n1 L 0x8\n2 S 0x10 1\n3 S 0x10 2\n0 L 0x10\nend\n",
 ];
 
 const PLAYS: [(&str, Play); 4] = [
@@ -41,13 +41,11 @@ fn over_lists(alloc: Global, play: Play, input: &[u8]) -> Result<Vec<u8>, Fail> 
 #[test]
 fn lists_and_rings(rt: HostRuntime) -> Result<(), Fail> {
     let alloc = rt.alloc();
-    for ops in OPS.iter() {
-        let input = trace(alloc, "flash 2", &[4, 2, 1, 2, 1, 1, 1], ops, None)?;
+    for input in TRACES.iter() {
         for (words, play) in PLAYS.iter() {
             let ended = ends(alloc, words, input.as_bytes())?;
-            let text = over_lists(alloc, *play, input.as_bytes())?;
-            assert_eq!(rt; ended.code, 0);
-            assert_eq!(rt; ended.output.as_slice(), text.as_slice());
+            let text = String::from_utf8(over_lists(alloc, *play, input.as_bytes())?)?;
+            assert!(rt; ended.is(0, &text, ""), "at {words}");
         }
     }
     Ok(())

@@ -1,4 +1,4 @@
-//! What a machine begins with: programs of its nodes, put together operation by operation, and empty linked directories.
+//! What a machine begins with: the programs of its nodes, made of operations, and empty linked directories.
 
 ghost use Rattle.std.specs.Prelude.{◌≡◌, ◌<◌, [], map, replicate, true, IfOk};
 ghost use Rattle.line_map.specs.Sizes.{all_words};
@@ -11,6 +11,10 @@ use line_map::Machine;
 use op_model::{Event, Kind, NoMemory, Op, Program};
 use sharer_dir::LinkedDir;
 use std::alloc::Global;
+use std::test::Fail;
+
+/// A node, what it does, the number of a word, and an operand.
+pub type Access = (u32, Kind, u32, u64);
 
 fn empty_programs(alloc: Global, nodes: u32) -> Result<Vec<Program>, NoMemory>
     ensures { IfOk result (λ programs. programs.items ≡ replicate nodes []) }
@@ -23,14 +27,14 @@ fn empty_programs(alloc: Global, nodes: u32) -> Result<Vec<Program>, NoMemory>
 }
 
 /// An empty program for each node.
-pub fn first_programs(alloc: Global, cfg: Machine) -> Result<Vec<Program>, NoMemory>
+fn first_programs(alloc: Global, cfg: Machine) -> Result<Vec<Program>, NoMemory>
     ensures { IfOk result (λ programs. ArePrograms cfg programs.items) }
 {
     empty_programs(alloc, cfg.nodes())
 }
 
 /// Puts an operation at the end of its node's program. A program holds at most 4294967295; one more is left out.
-pub fn put_op(
+fn put_op(
     programs: &mut Vec<Program>,
     cfg: Machine,
     node: u32,
@@ -55,6 +59,20 @@ pub fn put_op(
         word,
         value,
     })
+}
+
+/// The program of each node: its operations in this order. Each is at a node and on a word of the machine.
+pub fn programs_of(alloc: Global, cfg: Machine, ops: &[Access]) -> Result<Vec<Program>, Fail>
+    ensures { IfOk result (λ programs. ArePrograms cfg programs.items) }
+{
+    let mut programs = first_programs(alloc, cfg)?;
+    for (node, kind, word, value) in ops {
+        if *node >= cfg.nodes() || *word >= cfg.all_words() {
+            return Err(Fail::new("an operation that the machine can't do"));
+        }
+        put_op(&mut programs, cfg, *node, *kind, *word, *value)?;
+    }
+    Ok(programs)
 }
 
 fn empty_dirs(alloc: Global, cfg: Machine) -> Result<Vec<LinkedDir>, NoMemory>

@@ -5,4 +5,4 @@ mod fixtures;
 #[cfg(test)]
 mod tests;
 
-pub use fixtures::{first_dirs, first_programs, is_of_machine, put_op};
+pub use fixtures::{Access, first_dirs, is_of_machine, programs_of};

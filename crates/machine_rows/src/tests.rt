@@ -1,287 +1,308 @@
-//! Runs of a machine of three nodes, two lines each, one word a line and one link a home, worked by hand. All words are at home 0. A row has the programs, the steps with the causes of those that are refused, the history, and some of the counts.
+//! Runs of small machines, worked by hand. All words are at home 0.
 
 ghost use Rattle.std.specs.Prelude.{◌≡◌, IfOk};
-ghost use Rattle.op_model.specs.Programs.{ArePrograms};
+ghost use Rattle.op_model.specs.Run.Machines.{IsEventOf};
 ghost use Rattle.op_model.specs.Run.Bounds.{request_bound as requests_at_most, reply_bound as replies_at_most};
 ghost use Rattle.lane_queues.specs.LaneStates.{no_messages};
 
 mod views;
 
-use crate::{first_dirs, first_programs, is_of_machine, put_op};
-use Class::{Reply, Request};
+use crate::{Access, first_dirs, is_of_machine, programs_of};
 use Kind::{Load, Store};
+use dir_report::put_entry;
 use lane_queues::{Lanes, ListLanes, RingLanes};
-use line_map::Machine;
+use line_map::{Machine, OutOfRange};
 use machine::Machine1;
 use machine_face::ApplyError;
-use op_model::{Cause, Class, Entry, Event, EvictKind, Kind, NoMemory, Program};
+use op_model::{Cause, Count, Event, Kind};
 use out_space::{reply_bound, request_bound};
 use sharer_dir::LinkedDir;
 use std::alloc::Global;
 use std::process::Abort;
 use std::test::Fail;
+use step_journal::read_steps;
 
-/// A node, what it does, the number of a word, and an operand.
-type Access = (u32, Kind, u32, u64);
-
-/// An event, and why it is refused.
-type Step = (Event, Option<Cause>);
-
-/// A place among the counts and the number there.
-type Number = (u32, u64);
-
-/// Places among the counts.
-const EVENTS: u32 = 0;
-
-const ISSUES: u32 = 2;
-
-const FWD_GETS: u32 = 9;
-
-const INVS: u32 = 11;
-
-const NO_LINK: u32 = 22;
-
-const CALLED_IN: u32 = 25;
-
-const MARKED: u32 = 26;
-
-fn take(src: u32, dst: u32, class: Class) -> Event {
-    Event::Take {
-        src,
-        dst,
-        class,
-        victim: None,
-    }
+/// A run worked by hand.
+struct Run {
+    title: &'static str,
+    /// Nodes, lines, words, links, sets, pending lines and evictions of the machine.
+    sizes: [u64; 7],
+    ops: &'static [Access],
+    /// Steps as in a trace. Behind one that is refused stand `!` and the cause.
+    steps: &'static [&'static str],
 }
 
-fn call_in(src: u32, dst: u32, line: u32) -> Event {
-    Event::Take {
-        src,
-        dst,
-        class: Request,
-        victim: Some(line),
-    }
+/// A run that ends at rest with all done, its history as in a report, and some of its counts.
+struct Row {
+    run: Run,
+    history: &'static str,
+    counts: &'static [(Count, u64)],
 }
 
-fn issue(node: u32) -> Event {
-    Event::Issue { node }
+/// Three nodes with two lines each, one word a line and one link a home.
+const SMALL: [u64; 7] = [3, 2, 1, 1, 2, 1, 1];
+
+const ROWS: [Row; 3] = [
+    Row {
+        run: Run {
+            title: "a store is read at its owner",
+            sizes: SMALL,
+            ops: &[(1, Store, 0, 7), (2, Load, 0, 0)],
+            steps: &[
+                "t 1 0 q - ! LaneEmpty",
+                "h 0 ! NoOp",
+                "h 1 ! Miss",
+                "r 0 ! NoLinks",
+                "i 1",
+                "i 1 ! Outstanding",
+                "t 1 0 q 0 ! VictimUnasked",
+                "t 1 0 q -",
+                "t 0 1 r -",
+                "e 1 0 hint ! WrongKind",
+                "i 2",
+                "t 2 0 q -",
+                "r 0 ! LinePending",
+                "t 0 1 q -",
+                "t 1 2 r -",
+                "t 1 0 r -",
+            ],
+        },
+        history: "1 0 S 0x0 7\n2 0 L 0x0 7\n",
+        counts: &[
+            (Count::Events, 8),
+            (Count::Issues, 2),
+            (Count::TakeFwdGet, 1),
+        ],
+    },
+    Row {
+        run: Run {
+            title: "a load is served before the store that ends first",
+            sizes: SMALL,
+            ops: &[(1, Load, 0, 0), (2, Store, 0, 5)],
+            steps: &[
+                "i 1",
+                "t 1 0 q -",
+                "i 2",
+                "t 2 0 q -",
+                "t 0 1 q -",
+                "t 1 0 r -",
+                "t 0 2 r -",
+                "t 0 1 r -",
+            ],
+        },
+        history: "1 0 L 0x0 0\n2 0 S 0x0 5\n",
+        counts: &[(Count::Events, 8), (Count::TakeInv, 1), (Count::Marked, 1)],
+    },
+    Row {
+        run: CALLED_IN,
+        history: "1 0 L 0x0 0\n2 0 L 0x0 0\n1 1 L 0x8 0\n2 1 L 0x8 0\n",
+        counts: &[
+            (Count::Events, 19),
+            (Count::TakeInv, 2),
+            (Count::NakNoLink, 1),
+            (Count::Reclaims, 1),
+        ],
+    },
+];
+
+/// The two lines of a home with one link, read by two nodes in turn.
+const CALLED_IN: Run = Run {
+    title: "a line is called in for its link",
+    sizes: SMALL,
+    ops: &[
+        (1, Load, 0, 0),
+        (1, Load, 1, 0),
+        (2, Load, 0, 0),
+        (2, Load, 1, 0),
+    ],
+    steps: &[
+        "i 1",
+        "t 1 0 q -",
+        "t 0 1 r -",
+        "i 2",
+        "t 2 0 q -",
+        "t 0 2 r -",
+        "i 1",
+        "t 1 0 q -",
+        "t 0 1 r -",
+        "i 2",
+        "t 2 0 q - ! VictimMissing",
+        "t 2 0 q 1 ! VictimUnfit",
+        "t 2 0 q 99 ! VictimUnfit",
+        "t 2 0 q 0",
+        "t 0 2 r -",
+        "t 0 1 q -",
+        "t 1 0 r -",
+        "t 0 2 q -",
+        "t 2 0 r -",
+        "i 2",
+        "t 2 0 q -",
+        "t 0 2 r -",
+    ],
+};
+
+fn machine_of(run: &Run) -> Result<Machine, OutOfRange> {
+    let [nodes, lines, words, links, sets, pending, evicts] = run.sizes;
+    Machine::new(nodes, lines, words, links, sets, pending, evicts)
 }
 
-fn entry(node: u32, index: u32, kind: Kind, word: u32, value: u64) -> Entry {
-    Entry {
-        node,
-        index,
-        kind,
-        word,
-        value,
-        old: 0,
-    }
+fn same_text(rt: &impl Abort, title: &str, what: &str, found: &str, wanted: &str) {
+    assert_eq!(rt; found, wanted, "{title}: {what}");
 }
 
-/// Makes an event, or sees it refused for this cause; `enabled` says so beforehand.
-fn step<Q: Lanes>(
-    rt: &impl Abort,
-    m: &mut Machine1<LinkedDir, Q>,
-    event: Event,
-    refusal: Option<Cause>,
-) {
-    assert!(rt; is_of_machine(Machine1::cfg(m), event));
-    let answer = Machine1::enabled(m, &event);
-    assert_eq!(rt; answer.err(), refusal);
-    match Machine1::apply(m, event) {
-        Ok(()) => assert_eq!(rt; refusal, None),
-        Err(ApplyError::NotEnabled(cause)) => assert_eq!(rt; refusal, Some(cause)),
-        Err(ApplyError::Memory) => panic!(rt; "no memory"),
-    }
+fn same_number(rt: &impl Abort, title: &str, what: &str, found: u64, wanted: u64) {
+    assert_eq!(rt; found, wanted, "{title}: {what}");
 }
 
-fn programs_with(
+/// The event that a step spells. Its victim may be a line that the machine doesn't have.
+fn event_of(
     rt: &impl Abort,
     alloc: Global,
     cfg: Machine,
-    ops: &[Access],
-) -> Result<Vec<Program>, NoMemory>
-    ensures { IfOk result (λ programs. ArePrograms cfg programs.items) }
+    title: &str,
+    text: &str,
+) -> Result<Event, Fail>
+    ensures { IfOk result (λ event. IsEventOf cfg event) }
 {
-    let mut programs = first_programs(alloc, cfg)?;
-    for (node, kind, word, value) in ops {
-        assert!(rt; *node < cfg.nodes());
-        assert!(rt; *word < cfg.all_words());
-        put_op(&mut programs, cfg, *node, *kind, *word, *value)?;
+    let wide = Machine::new(64, 4096, 1, 1, 1, 1, 1)?;
+    if let Ok(steps) = read_steps(alloc, &wide, text.as_bytes(), 1)
+        && let [event] = steps.as_slice()
+        && is_of_machine(cfg, *event)
+    {
+        return Ok(*event);
     }
-    Ok(programs)
+    panic!(rt; "{title}: no step: {text}")
 }
 
+/// The cause of a refusal, and nothing where there is none.
+fn name_of(answer: Result<(), Cause>) -> &'static str {
+    match answer {
+        Ok(()) => "",
+        Err(cause) => cause.name(),
+    }
+}
+
+/// Makes a step, or sees it refused for its cause; `enabled` says so beforehand.
+fn step<Q: Lanes>(
+    rt: &impl Abort,
+    alloc: Global,
+    m: &mut Machine1<LinkedDir, Q>,
+    title: &str,
+    step: &str,
+) -> Result<(), Fail> {
+    let (text, refusal) = step.split_once(" ! ").unwrap_or((step, ""));
+    let event = event_of(rt, alloc, Machine1::cfg(m), title, text)?;
+    let answer = name_of(Machine1::enabled(m, &event));
+    same_text(rt, title, step, answer, refusal);
+    let made = match Machine1::apply(m, event) {
+        Ok(()) => "",
+        Err(ApplyError::NotEnabled(cause)) => cause.name(),
+        Err(ApplyError::Memory) => "no memory",
+    };
+    same_text(rt, title, step, made, refusal);
+    Ok(())
+}
+
+/// The machine of a run after so many of its steps.
 fn play<Q: Lanes>(
     rt: &impl Abort,
     alloc: Global,
     cfg: Machine,
     lanes: Q,
-    ops: &[Access],
-    steps: &[Step],
+    run: &Run,
+    count: usize,
 ) -> Result<Machine1<LinkedDir, Q>, Fail>
     requires { Q.meaning lanes ≡ no_messages cfg (requests_at_most cfg) (replies_at_most cfg) }
 {
-    let programs = programs_with(rt, alloc, cfg, ops)?;
+    let programs = programs_of(alloc, cfg, run.ops)?;
     let mut m = Machine1::start(alloc, cfg, programs, first_dirs(alloc, cfg)?, lanes)?;
-    for (event, refusal) in steps {
-        step(rt, &mut m, *event, *refusal);
+    for text in run.steps.iter().take(count) {
+        step(rt, alloc, &mut m, run.title, text)?;
     }
     Ok(m)
 }
 
-/// At the end all is done and at rest, with this history and these counts.
+fn history_of<Q: Lanes>(alloc: Global, m: &Machine1<LinkedDir, Q>) -> Result<String, Fail> {
+    let mut text = Vec::new(alloc);
+    for entry in &Machine1::history(m, alloc)? {
+        put_entry(&mut text, entry)?;
+    }
+    Ok(String::from_utf8(text)?)
+}
+
+fn all_counts<Q: Lanes>(m: &Machine1<LinkedDir, Q>) -> [u64; 27] {
+    let mut counts = [0; 27];
+    for i in 0..27u32 {
+        counts[i as usize] = Machine1::count(m, i);
+    }
+    counts
+}
+
+/// All is done and at rest, with the history and the counts of the row.
 fn ends_with<Q: Lanes>(
     rt: &impl Abort,
     alloc: Global,
     m: &Machine1<LinkedDir, Q>,
-    history: &[Entry],
-    numbers: &[Number],
+    row: &Row,
 ) -> Result<(), Fail> {
-    assert!(rt; m.all_done());
-    assert!(rt; m.is_quiet());
-    let entries = Machine1::history(m, alloc)?;
-    assert_eq!(rt; entries.as_slice(), history);
-    for (i, number) in numbers {
-        assert!(rt; *i < 27);
-        assert_eq!(rt; Machine1::count(m, *i), *number, "at count {i}");
+    let title = row.run.title;
+    assert!(rt;
+        m.all_done() && m.is_quiet(),
+        "{title}: isn't done and at rest"
+    );
+    let history = history_of(alloc, m)?;
+    same_text(rt, title, "history", history.as_str(), row.history);
+    for (count, number) in row.counts {
+        same_number(
+            rt,
+            title,
+            count.name(),
+            Machine1::count(m, count.index()),
+            *number,
+        );
     }
     Ok(())
 }
 
-/// A row over both kinds of lanes, which count alike.
-fn row(
+/// Plays a row to its end over these lanes. The answer is all counts.
+fn ends<Q: Lanes>(
     rt: &impl Abort,
     alloc: Global,
-    ops: &[Access],
-    steps: &[Step],
-    history: &[Entry],
-    numbers: &[Number],
-) -> Result<(), Fail> {
-    let cfg = Machine::new(3, 2, 1, 1, 2, 1, 1)?;
-    let requests = request_bound(&cfg);
-    let replies = reply_bound(&cfg);
-    let rings = RingLanes::new(alloc, cfg, requests, replies)?;
-    let rings = play(rt, alloc, cfg, rings, ops, steps)?;
-    ends_with(rt, alloc, &rings, history, numbers)?;
-    let lists = ListLanes::new(alloc, cfg, requests, replies)?;
-    let lists = play(rt, alloc, cfg, lists, ops, steps)?;
-    ends_with(rt, alloc, &lists, history, numbers)?;
-    for i in 0..27 {
-        assert_eq!(rt;
-            Machine1::count(&rings, i),
-            Machine1::count(&lists, i),
-            "at count {i}"
+    cfg: Machine,
+    lanes: Q,
+    row: &Row,
+) -> Result<[u64; 27], Fail>
+    requires { Q.meaning lanes ≡ no_messages cfg (requests_at_most cfg) (replies_at_most cfg) }
+{
+    let m = play(rt, alloc, cfg, lanes, &row.run, row.run.steps.len())?;
+    ends_with(rt, alloc, &m, row)?;
+    Ok(all_counts(&m))
+}
+
+/// Plays a row over both kinds of lanes, which count alike.
+fn ends_alike(rt: &impl Abort, alloc: Global, row: &Row) -> Result<(), Fail> {
+    let cfg = machine_of(&row.run)?;
+    let rings = RingLanes::new(alloc, cfg, request_bound(&cfg), reply_bound(&cfg))?;
+    let rings = ends(rt, alloc, cfg, rings, row)?;
+    let lists = ListLanes::new(alloc, cfg, request_bound(&cfg), reply_bound(&cfg))?;
+    let lists = ends(rt, alloc, cfg, lists, row)?;
+    for i in 0..27u32 {
+        let name = Count::at(i).name();
+        same_number(
+            rt,
+            row.run.title,
+            name,
+            rings[i as usize],
+            lists[i as usize],
         );
     }
     Ok(())
 }
 
 #[test]
-fn a_store_is_read_at_its_owner(rt: HostRuntime) -> Result<(), Fail> {
-    row(
-        &rt,
-        rt.alloc(),
-        &[(1, Store, 0, 7), (2, Load, 0, 0)],
-        &[
-            (take(1, 0, Request), Some(Cause::LaneEmpty)),
-            (Event::Hit { node: 0 }, Some(Cause::NoOp)),
-            (Event::Hit { node: 1 }, Some(Cause::Miss)),
-            (Event::Reclaim { line: 0 }, Some(Cause::NoLinks)),
-            (issue(1), None),
-            (issue(1), Some(Cause::Outstanding)),
-            (call_in(1, 0, 0), Some(Cause::VictimUnasked)),
-            (take(1, 0, Request), None),
-            (take(0, 1, Reply), None),
-            (
-                Event::Evict {
-                    node: 1,
-                    line: 0,
-                    kind: EvictKind::Hint,
-                },
-                Some(Cause::WrongKind),
-            ),
-            (issue(2), None),
-            (take(2, 0, Request), None),
-            (Event::Reclaim { line: 0 }, Some(Cause::LinePending)),
-            (take(0, 1, Request), None),
-            (take(1, 2, Reply), None),
-            (take(1, 0, Reply), None),
-        ],
-        &[entry(1, 0, Store, 0, 7), entry(2, 0, Load, 0, 7)],
-        &[(EVENTS, 8), (ISSUES, 2), (FWD_GETS, 1)],
-    )
-}
-
-#[test]
-fn a_load_is_served_before_the_store_that_ends_first(rt: HostRuntime) -> Result<(), Fail> {
-    row(
-        &rt,
-        rt.alloc(),
-        &[(1, Load, 0, 0), (2, Store, 0, 5)],
-        &[
-            (issue(1), None),
-            (take(1, 0, Request), None),
-            (issue(2), None),
-            (take(2, 0, Request), None),
-            (take(0, 1, Request), None),
-            (take(1, 0, Reply), None),
-            (take(0, 2, Reply), None),
-            (take(0, 1, Reply), None),
-        ],
-        &[entry(1, 0, Load, 0, 0), entry(2, 0, Store, 0, 5)],
-        &[(EVENTS, 8), (INVS, 1), (MARKED, 1)],
-    )
-}
-
-/// The two lines of a home with one link, read by two nodes in turn.
-const ONE_LINK: [Access; 4] = [
-    (1, Load, 0, 0),
-    (1, Load, 1, 0),
-    (2, Load, 0, 0),
-    (2, Load, 1, 0),
-];
-
-fn one_link_steps() -> [Step; 22] {
-    [
-        (issue(1), None),
-        (take(1, 0, Request), None),
-        (take(0, 1, Reply), None),
-        (issue(2), None),
-        (take(2, 0, Request), None),
-        (take(0, 2, Reply), None),
-        (issue(1), None),
-        (take(1, 0, Request), None),
-        (take(0, 1, Reply), None),
-        (issue(2), None),
-        (take(2, 0, Request), Some(Cause::VictimMissing)),
-        (call_in(2, 0, 1), Some(Cause::VictimUnfit)),
-        (call_in(2, 0, 99), Some(Cause::VictimUnfit)),
-        (call_in(2, 0, 0), None),
-        (take(0, 2, Reply), None),
-        (take(0, 1, Request), None),
-        (take(1, 0, Reply), None),
-        (take(0, 2, Request), None),
-        (take(2, 0, Reply), None),
-        (issue(2), None),
-        (take(2, 0, Request), None),
-        (take(0, 2, Reply), None),
-    ]
-}
-
-#[test]
-fn a_line_is_called_in_for_its_link(rt: HostRuntime) -> Result<(), Fail> {
-    row(
-        &rt,
-        rt.alloc(),
-        &ONE_LINK,
-        &one_link_steps(),
-        &[
-            entry(1, 0, Load, 0, 0),
-            entry(2, 0, Load, 0, 0),
-            entry(1, 1, Load, 1, 0),
-            entry(2, 1, Load, 1, 0),
-        ],
-        &[(EVENTS, 19), (INVS, 2), (NO_LINK, 1), (CALLED_IN, 1)],
-    )
+fn rows(rt: HostRuntime) -> Result<(), Fail> {
+    for row in &ROWS {
+        ends_alike(&rt, rt.alloc(), row)?;
+    }
+    Ok(())
 }

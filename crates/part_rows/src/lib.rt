@@ -2,7 +2,11 @@
 #![tactic(auto)]
 
 #[cfg(test)]
+mod agree;
+#[cfg(test)]
 mod bit_lists;
+#[cfg(test)]
+mod calls;
 #[cfg(test)]
 mod linked_lists;
 #[cfg(test)]

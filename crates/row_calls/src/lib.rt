@@ -1,8 +1,6 @@
-//! How tests of rows call the program, and the texts that they call it with.
+//! How tests of rows call the program.
 #![tactic(auto)]
 
 mod calls;
-mod texts;
 
-pub use calls::{Ended, call, ends, ends_within};
-pub use texts::{joined, trace};
+pub use calls::{Ended, NEVER, call, ends};

@@ -7,6 +7,7 @@ ghost use Rattle.op_model.specs.Parts.Part.{part_at_start};
 ghost use Rattle.lane_table.specs.Rule.{parts_from};
 ghost use Rattle.lane_table.specs.Views.{AreSeatsOf, IsSeatOf};
 
+use crate::agree::agree;
 use lane_table::{LaneTable, NodeSeat, NodeSeats};
 use line_map::Machine;
 use magic_node::MagicNode;
@@ -52,9 +53,8 @@ fn program_of(
     let mut program = Program::empty(alloc);
     for op in ops {
         let (kind, word) = *op;
-        if word >= cfg.all_words() || program.len() == 4294967295 {
-            panic!(rt; "no such word");
-        }
+        assert!(rt; word < cfg.all_words());
+        assert!(rt; program.len() < 4294967295);
         program.push(Op {
             node,
             index: program.len(),
@@ -77,15 +77,11 @@ fn programs_of(
 {
     let mut all = Vec::new(alloc);
     for ops in lists {
-        if all.len() >= cfg.nodes() as usize {
-            panic!(rt; "no more programs than nodes");
-        }
+        assert!(rt; all.len() < cfg.nodes() as usize);
         let node = all.len() as u32;
         all.push(program_of(rt, alloc, cfg, node, ops)?)?;
     }
-    if all.len() != cfg.nodes() as usize {
-        panic!(rt; "a program for each node");
-    }
+    assert!(rt; all.len() == cfg.nodes() as usize);
     Ok(all)
 }
 
@@ -134,15 +130,11 @@ fn all_boxes<K: Named + Send>(
 fn turn<K: Named>(rt: &impl Abort, t: &LaneTable, b: &mut NodeBox<K>, role: Role) -> Turn
     requires { t.now ≡ K.table }
 {
-    if b.log().len() >= 1 << 48 {
-        panic!(rt; "the log is short");
-    }
+    assert!(rt; b.log().len() < 1 << 48);
     match role {
         Role::Processor => b.processor_turn(t),
         Role::Controller(link) => {
-            if link >= t.cfg().links() {
-                panic!(rt; "no such link");
-            }
+            assert!(rt; link < t.cfg().links());
             b.controller_turn(t, link)
         }
     }
@@ -157,12 +149,16 @@ fn play<K: Named>(
 )
     requires { t.now ≡ K.table }
 {
-    for next in turns {
+    for (place, next) in turns.iter().enumerate() {
         let (node, role, answer) = *next;
-        if node >= boxes.len() {
-            panic!(rt; "no such node");
-        }
-        assert_eq!(rt; turn(rt, t, &mut boxes[node], role), answer);
+        assert!(rt; node < boxes.len());
+        agree(
+            rt,
+            place,
+            "turn",
+            turn(rt, t, &mut boxes[node], role),
+            answer,
+        );
     }
 }
 
@@ -170,7 +166,7 @@ fn play<K: Named>(
 fn starts<K: Named>(rt: &impl Abort, boxes: &[NodeBox<K>]) {
     let mut node = 0;
     for b in boxes {
-        assert_eq!(rt; b.node().number(), node);
+        assert!(rt; b.node().number() == node);
         assert!(rt; b.log().is_empty());
         node = node.wrapping_add(1);
     }
@@ -178,31 +174,27 @@ fn starts<K: Named>(rt: &impl Abort, boxes: &[NodeBox<K>]) {
 
 // The log of a node ends with these entries.
 fn logged<K: Named>(rt: &impl Abort, boxes: &[NodeBox<K>], node: usize, entries: &[Numbered]) {
-    if node >= boxes.len() {
-        panic!(rt; "no such node");
-    }
-    let log = boxes[node].log();
-    if log.entries().len() < entries.len() {
-        panic!(rt; "too few entries");
-    }
-    assert_eq!(rt;
-        &log.entries()[log.entries().len() - entries.len()..],
-        entries
+    assert!(rt; node < boxes.len());
+    let log = boxes[node].log().entries();
+    assert!(rt; log.len() >= entries.len());
+    agree(
+        rt,
+        node,
+        "end of the log",
+        &log[log.len() - entries.len()..],
+        entries,
     );
 }
 
 // Of these lines of a home so many acknowledgements are due.
 fn waits<K: Named>(rt: &impl Abort, boxes: &[NodeBox<K>], node: usize, due: &[(u32, u32)]) {
-    if node >= boxes.len() {
-        panic!(rt; "no such node");
-    }
+    assert!(rt; node < boxes.len());
     let home = boxes[node].node().home();
     for next in due {
         let (line, acks) = *next;
-        if line >= home.cfg().all_lines() || home.cfg().home_of(line) != home.node() {
-            panic!(rt; "a line of another home");
-        }
-        assert_eq!(rt; home.header(line).acks, acks);
+        assert!(rt; line < home.cfg().all_lines());
+        assert!(rt; home.cfg().home_of(line) == home.node());
+        assert!(rt; home.header(line).acks == acks);
     }
 }
 
@@ -481,9 +473,26 @@ const CALLED_IN: Row = Row {
 };
 
 #[test]
-fn turns(rt: HostRuntime) -> Result<(), Fail> {
-    for row in [ONE_LOAD, VICTIM, EXCLUSIVE, SHARED, CALLED_IN] {
-        plays(&rt, rt.alloc(), &row)?;
-    }
-    Ok(())
+fn one_load(rt: HostRuntime) -> Result<(), Fail> {
+    plays(&rt, rt.alloc(), &ONE_LOAD)
+}
+
+#[test]
+fn victim(rt: HostRuntime) -> Result<(), Fail> {
+    plays(&rt, rt.alloc(), &VICTIM)
+}
+
+#[test]
+fn exclusive(rt: HostRuntime) -> Result<(), Fail> {
+    plays(&rt, rt.alloc(), &EXCLUSIVE)
+}
+
+#[test]
+fn shared(rt: HostRuntime) -> Result<(), Fail> {
+    plays(&rt, rt.alloc(), &SHARED)
+}
+
+#[test]
+fn called_in(rt: HostRuntime) -> Result<(), Fail> {
+    plays(&rt, rt.alloc(), &CALLED_IN)
 }

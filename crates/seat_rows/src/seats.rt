@@ -81,8 +81,8 @@ fn the_put(rt: &impl Abort, found: Option<Msg>) -> Msg
 {
     let put = found.expect(rt, "the answer is there");
     let body = put.body_words().expect(rt, "it brings words");
-    assert_eq!(rt; put.header_word(), 8);
-    assert_eq!(rt; body.get(0), 0);
+    assert!(rt; put.header_word() == 8);
+    assert!(rt; body.get(0) == 0);
     put
 }
 
@@ -121,7 +121,7 @@ fn ask(rt: &impl Abort, t: &LaneTable, one: &mut NodeSeat, out: &mut Outbox)
     ensures seat { IsSeatOf t.now one.new }
     ensures asked { HasAsked one.new.part }
 {
-    assert_eq!(rt; one.ticket(t, Event::Issue { node: 1 }), 0);
+    assert!(rt; one.ticket(t, Event::Issue { node: 1 }) == 0);
     put_out(rt, out, 0, Msg::Get { line: 0 });
     one_moved(rt, one.flush(t, 0, Class::Request, out));
 }
@@ -141,7 +141,7 @@ fn take_request(rt: &impl Abort, t: &LaneTable, zero: &mut NodeSeat)
         class: Class::Request,
         victim: None,
     };
-    assert_eq!(rt; zero.ticket(t, take), 1);
+    assert!(rt; zero.ticket(t, take) == 1);
     zero.clear(t, 1, Class::Request);
     no_more(rt, zero.look(t, 1, Class::Request));
 }
@@ -160,7 +160,7 @@ fn answer(rt: &impl Abort, t: &LaneTable, zero: &mut NodeSeat, out: &mut Outbox)
     };
     put_out(rt, out, 1, put);
     one_moved(rt, zero.flush(t, 1, Class::Reply, out));
-    assert_eq!(rt; zero.flush(t, 1, Class::Reply, out), 0);
+    assert!(rt; zero.flush(t, 1, Class::Reply, out) == 0);
     assert!(rt; !zero.space(t, 1, Class::Reply));
 }
 
@@ -178,8 +178,20 @@ fn load(rt: &impl Abort, t: &LaneTable, one: &mut NodeSeat)
         class: Class::Reply,
         victim: None,
     };
-    assert_eq!(rt; one.ticket(t, take), 2);
+    assert!(rt; one.ticket(t, take) == 2);
     one.clear(t, 0, Class::Reply);
+}
+
+// How many tickets were drawn when both seats are back, in either order.
+fn finished(alloc: Global, t: LaneTable, first: NodeSeat, second: NodeSeat) -> Result<u64, Fail>
+    requires table { t.setup ≡ small_setup }
+    requires first { IsSeatOf t first }
+    requires second { IsSeatOf t second }
+{
+    let mut seats = Vec::new(alloc);
+    seats.push(first)?;
+    seats.push(second)?;
+    Ok(t.finish(seats))
 }
 
 #[test]
@@ -190,10 +202,7 @@ fn one_load(rt: HostRuntime) -> Result<(), Fail> {
     take_request(&rt, &t, &mut zero);
     answer(&rt, &t, &mut zero, &mut Outbox::new(rt.alloc(), cfg)?);
     load(&rt, &t, &mut one);
-    let mut seats = Vec::new(rt.alloc());
-    seats.push(zero)?;
-    seats.push(one)?;
-    assert_eq!(rt; t.finish(seats), 3);
+    assert!(rt; finished(rt.alloc(), t, zero, one)? == 3);
     Ok(())
 }
 
@@ -229,9 +238,6 @@ fn two_threads(rt: HostRuntime) -> Result<(), Fail> {
     let out = Outbox::new(rt.alloc(), smallest(&rt))?;
     let (one, mut zero) = join(&rt, || asks(&rt, &t, one, out), || looks(&t, zero));
     the_get(&rt, zero.look(&t, 1, Class::Request));
-    let mut seats = Vec::new(rt.alloc());
-    seats.push(one)?;
-    seats.push(zero)?;
-    assert_eq!(rt; t.finish(seats), 1);
+    assert!(rt; finished(rt.alloc(), t, one, zero)? == 1);
     Ok(())
 }
