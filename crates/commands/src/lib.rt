@@ -10,6 +10,7 @@ mod texts;
 mod viewing;
 
 pub use journaled::journal_output;
+pub use playable::Playable;
 pub use replaying::{ReplayError, stopped};
 pub use texts::{bits_text, command_text, command_text_over};
-pub use viewing::{ViewError, view_text};
+pub use viewing::{ViewError, machine_of, view_text};

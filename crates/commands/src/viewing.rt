@@ -161,8 +161,8 @@ fn show<M: Playable>(
     }
 }
 
-/// The machine of a trace, with linked lists and rings of words.
-fn machine_of(alloc: Global, trace: &Trace) -> Result<Machine1<LinkedDir, RingLanes>, NoMemory>
+/// The machine of a trace at its start, with linked lists and rings of words.
+pub fn machine_of(alloc: Global, trace: &Trace) -> Result<Machine1<LinkedDir, RingLanes>, NoMemory>
     ensures { IfOk result (λ made. run_made made ≡ machine_at_start Linked trace.now) }
 {
     let lanes = ring_lanes(alloc, trace)?;

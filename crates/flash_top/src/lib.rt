@@ -3,7 +3,7 @@
 
 mod gate;
 mod status;
-mod tell;
+mod telling;
 mod top;
 
 pub use byte_io::{Failed, MemSink, MemSource, Sink, Source, StdSink, StdSource};
@@ -12,5 +12,6 @@ pub use hist_check::EntryCause;
 pub use op_model::Cause;
 pub use run_text::{Gate, Role};
 pub use status::Status;
-pub use top::{plain_main, run_main};
+pub use telling::tell;
+pub use top::{plain_main, read_in, run_main};
 pub use trace_text::TraceCause;

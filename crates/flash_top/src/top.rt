@@ -12,7 +12,7 @@ ghost use Rattle.commands.specs.Runs.{IsOutput, IsStoppedIn};
 ghost use Rattle.flash_top.specs.Served.{Reads, IsInput, IsNoInput, IsNoTrace, IsUnreadable, PlaysText, charge_of, IsUnplayed, PlaysEagerText, IsEagerUnplayed, ShowsText, IsUnshown, IsUnchecked, IsTextOf, HasNoText, IsServed, IsRight, RunsText, IsRunServed, is_run as is_run_of, IsRightWithThreads, status_of_stop, status_of_refusal, status_of_replay, status_of_view, status_of_check};
 
 use crate::status::Status;
-use crate::tell::tell;
+use crate::telling::tell;
 use byte_io::{ReadStop, Sink, Source, read_all, write_all};
 use check_command::{CheckRefusal, check_text};
 use command_words::{Command, EagerPlay, Lists, Play, View};
@@ -75,7 +75,7 @@ fn unchecked(refusal: CheckRefusal) -> Status
 }
 
 /// The trace that a source has, which is read to its end.
-fn read_in<S: Source>(alloc: Global, source: &mut S) -> Result<Trace, Status>
+pub fn read_in<S: Source>(alloc: Global, source: &mut S) -> Result<Trace, Status>
     ensures ok { IfOk result (λ trace. Reads
         (record {
           left_before = S.left source.old;

@@ -191,6 +191,13 @@ impl<D: Sharers, Q: Lanes> Machine1<D, Q> {
         self.run.nodes[n as usize].proc().program()
     }
 
+    /// The entries of the operations that were served, in their order, completed or not.
+    pub fn served(&self) -> &[Entry]
+        ensures { (past : Past) → run_of self.now ≡ Some past → result.now ≡ past.served }
+    {
+        self.run.journal.served.as_slice()
+    }
+
     /// The completed operations, in the order of the events that served them: one history of one flat memory.
     pub fn history(&self, alloc: Global) -> Result<Vec<Entry>, NoMemory>
         ensures history { IfOk result (λ entries. (past : Past) → run_of self.now ≡ Some past → entries.items ≡ history_of past) }

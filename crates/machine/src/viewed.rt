@@ -9,7 +9,7 @@ use cpu_cache::{Cache, Proc};
 use dir_header::Sharers;
 use lane_queues::Lanes;
 use line_map::Body;
-use op_model::{Class, CopyState, Msg, Want};
+use op_model::{Class, CopyState, Entry, Msg, Want};
 use time_view::Viewed;
 
 impl<D: Sharers, Q: Lanes> Machine1<D, Q> {
@@ -35,6 +35,11 @@ impl<D: Sharers, Q: Lanes> Machine1<D, Q> {
 impl<D: Sharers, Q: Lanes> Viewed for Machine1<D, Q> {
     fn event_count(&self) -> u64 {
         Machine1::event_count(self)
+    }
+
+    fn served(&self) -> &[Entry] {
+        let _cfg = self.told();
+        Machine1::served(self)
     }
 
     fn place(&self, node: u32) -> u32 {

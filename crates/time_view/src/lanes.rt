@@ -29,7 +29,7 @@ fn class_part(class: Class) -> &'static [u8]
 }
 
 /// The name of a message, with the space behind it.
-fn name_part(msg: &Msg) -> &'static [u8]
+pub fn name_part(msg: &Msg) -> &'static [u8]
     ensures { result.now ≡ message_name (msg_content msg.now) ++ codes " " }
 {
     match msg {

@@ -10,6 +10,7 @@ mod sections;
 mod story;
 mod viewed;
 
+pub use lanes::name_part;
 pub use sections::state_text;
 pub use story::Story;
 pub use viewed::Viewed;

@@ -9,13 +9,17 @@ ghost use Rattle.dir_report.specs.Reports.{header_at};
 
 use dir_report::Reported;
 use line_map::Body;
-use op_model::{Class, CopyState, Msg, Want};
+use op_model::{Class, CopyState, Entry, Msg, Want};
 
 /// A machine that has made a run, as far as the text of its whole state reads it. No call scans lines, lanes or events.
 pub trait Viewed: Reported {
     /// How many events the run has.
     fn event_count(&self) -> u64
         ensures { result ≡ length (Self.meaning self.now).events };
+
+    /// The entries of the operations that were served, in their order, completed or not.
+    fn served(&self) -> &[Entry]
+        ensures { result.now ≡ (Self.meaning self.now).past.served };
 
     /// The place of a node in its program: how many of its operations are completed.
     fn place(&self, node: u32) -> u32

@@ -1,5 +1,5 @@
 -- What is told of a line, a step or an entry has the name of its cause, and what is told of too few steps their number.
-use Rattle.flash_top.proofs.tell.tell.Goals as goal
+use Rattle.flash_top.proofs.telling.tell.Goals as goal
 
 pub returns-in-BadTrace-clause-whole : goal.returns-in-BadTrace-clause-whole
 returns-in-BadTrace-clause-whole g c = rw (c.in-BadTrace.is, ← c.name.ensures) c.tell_numbered.ensures.whole
