@@ -1,0 +1,287 @@
+-- The chart of a run with one event more.
+use Rattle.std.proofs.Common.{◌≡◌, ◌≢◌, ℕ, suc, ◌+◌, ◌<◌, Bool, true, false, cond, ◌==◌, nat_lt, List, [], ◌∷◌, ◌++◌, Option, Some, None, Result, Ok, Err, length, drop, map, refl, sym, ap, subst, ◌∙◌, arith}
+use Rattle.std.specs.Prelude.{slice_get, ◌&&◌}
+use Rattle.std.specs.List.{All}
+use Rattle.std.proofs.lemmas.List.{append-nil, map-append, length-map, drop-map}
+use Rattle.std.proofs.lemmas.List.Elements.{All-nil, All-cons, All-append, All-drop}
+use Rattle.std.proofs.lemmas.Option.{same_Some}
+use Rattle.std.proofs.lemmas.Bool.Decides.{nat_tests}
+use Rattle.std.proofs.Math.Seq.{drop-append_seam}
+use Rattle.line_map.specs.Sizes.{Sizes, home_of}
+use Rattle.op_model.specs.declared.events.Class.{Class}
+use Rattle.op_model.specs.declared.events.Event.{Event}
+use Rattle.op_model.specs.declared.events.Event.TheVariants.{Hit, Issue, Evict, Take, Reclaim}
+use Rattle.op_model.specs.declared.events.Cause.{Cause}
+use Rattle.op_model.specs.declared.messages.Msg.{Msg}
+use Rattle.op_model.specs.declared.operations.Entry.{Entry}
+use Rattle.op_model.specs.Messages.{same_class, msg_class}
+use Rattle.op_model.specs.Shares.{Charge, State, Lanes}
+use Rattle.op_model.specs.Events.Node.{NodeOutcome, TakeFrom, local}
+use Rattle.op_model.specs.Events.Step.{Programs, Done, Off, act, effect, take_front, none_off, one_off, to_lane, and_then}
+use Rattle.op_model.specs.Run.Runs.{Past, past_after, run_by}
+use Rattle.op_model.specs.Run.Machines.{MachineRun, IsRunning, IsApplied, IsEventOf, effect_on, with_event}
+use Rattle.chart_strokes.specs.declared.strokes.Letter.{Letter}
+use Rattle.chart_strokes.specs.declared.strokes.Stroke.{Stroke}
+use Rattle.chart_strokes.specs.Strokes.{letter, posted, letters_after, node_of, Charted, charted_after, charted_then, charted, first_chart, chart_of, strokes_of, stroke_of, letter_taken, entry_at}
+use Rattle.run_chart.specs.declared.before.Before.{Before}
+use Rattle.run_chart.specs.Charts.{ChartView, in_lane, IsBefore, IsChartOf}
+use Rattle.run_chart.specs.Lettered.{off_by, new_letters, AreOfClass, ArePosted}
+
+-- ---- what an event does
+
+act-is : (node : ℕ) (off : Off) (r : Result NodeOutcome Cause) (done : Done) → act node off r ≡ Ok done → (done.node ≡ node) × (done.off ≡ off)
+act-is node off (Ok out) done is =
+    let same : record { node = node; out = out; off = off } ≡ done = cc in
+    (sym (ap (λ (d : Done). d.node) same), sym (ap (λ (d : Done). d.off) same))
+act-is node off (Err cause) done is = cc
+
+-- it is done at its node, and takes its message
+pub effect-is : (charge : Charge) (sizes : Sizes) (programs : Programs) (state : State) (event : Event) (done : Done) → effect charge sizes programs state event ≡ Ok done → (done.node ≡ node_of sizes event) × (done.off ≡ off_by event)
+effect-is charge sizes programs state (Hit node) done is = act-is node none_off _ done is
+effect-is charge sizes programs state (Issue node) done is = act-is node none_off _ done is
+effect-is charge sizes programs state (Evict node line kind) done is = act-is node none_off _ done is
+effect-is charge sizes programs state (Take src dst class victim) done is = go (state.lane src dst class) is
+  where
+    go : (messages : List Msg) → take_front charge sizes programs state src dst class victim messages ≡ Ok done → (done.node ≡ dst) × (done.off ≡ one_off src dst class)
+    go [] is = cc
+    go (m ∷ rest) is = act-is dst (one_off src dst class) (local charge sizes dst (programs dst) (state.share dst) (TakeFrom src m victim)) done is
+effect-is charge sizes programs state (Reclaim line) done is = act-is (home_of sizes line) none_off _ done is
+
+-- ---- charts, event by event
+
+module _ (charge : Charge) (sizes : Sizes) (programs : Programs) where
+  -- a chart follows its run
+  pub charted-past : (chart : Charted) (last : Past) (events : List Event) → run_by charge sizes programs chart.past events ≡ Some last → (charted charge sizes programs chart events).past ≡ last
+  charted-past chart last [] is = same_Some chart.past last is
+  charted-past chart last (e ∷ events) is = go (effect charge sizes programs chart.past.state e) is (λ d. charted-past (charted_after sizes programs chart e d) last events)
+    where
+      go : (r : Result Done Cause) → and_then r (λ d. run_by charge sizes programs (past_after sizes chart.past d) events) ≡ Some last →
+          ((d : Done) → run_by charge sizes programs (past_after sizes chart.past d) events ≡ Some last → (charted charge sizes programs (charted_after sizes programs chart e d) events).past ≡ last) →
+          (charted_then chart (λ d. charted charge sizes programs (charted_after sizes programs chart e d) events) r).past ≡ last
+      go (Ok d) runs rest = rest d runs
+      go (Err cause) runs rest = cc
+
+  -- one event more
+  pub charted-push : (chart : Charted) (mid : Past) (events : List Event) (event : Event) (done : Done) → run_by charge sizes programs chart.past events ≡ Some mid → effect charge sizes programs mid.state event ≡ Ok done →
+      charted charge sizes programs chart (events ++ event ∷ []) ≡ charted_after sizes programs (charted charge sizes programs chart events) event done
+  charted-push chart mid [] event done is does =
+      let here : effect charge sizes programs chart.past.state event ≡ Ok done = subst (λ (p : Past). effect charge sizes programs p.state event ≡ Ok done) (sym (same_Some chart.past mid is)) does in
+      ap (λ r. charted_then chart (λ d. charted_after sizes programs chart event d) r) here
+  charted-push chart mid (e ∷ events) event done is does = go (effect charge sizes programs chart.past.state e) is (λ d. charted-push (charted_after sizes programs chart e d) mid events event done)
+    where
+      go : (r : Result Done Cause) → and_then r (λ d. run_by charge sizes programs (past_after sizes chart.past d) events) ≡ Some mid →
+          ((d : Done) → run_by charge sizes programs (past_after sizes chart.past d) events ≡ Some mid → effect charge sizes programs mid.state event ≡ Ok done →
+          charted charge sizes programs (charted_after sizes programs chart e d) (events ++ event ∷ []) ≡ charted_after sizes programs (charted charge sizes programs (charted_after sizes programs chart e d) events) event done) →
+          charted_then chart (λ d. charted charge sizes programs (charted_after sizes programs chart e d) (events ++ event ∷ [])) r ≡ charted_after sizes programs (charted_then chart (λ d. charted charge sizes programs (charted_after sizes programs chart e d) events) r) event done
+      go (Ok d) runs rest = rest d runs does
+      go (Err cause) runs rest = cc
+
+  -- what each event keeps is so of the whole chart
+  pub charted-keeps : (P : Charted → Type 0) → ((chart : Charted) (event : Event) (done : Done) → P chart → P (charted_after sizes programs chart event done)) → (chart : Charted) (events : List Event) → P chart → P (charted charge sizes programs chart events)
+  charted-keeps P step chart [] first = first
+  charted-keeps P step chart (e ∷ events) first = go (effect charge sizes programs chart.past.state e) (λ d. charted-keeps P step (charted_after sizes programs chart e d) events (step chart e d first))
+    where
+      go : (r : Result Done Cause) → ((d : Done) → P (charted charge sizes programs (charted_after sizes programs chart e d) events)) → P (charted_then chart (λ d. charted charge sizes programs (charted_after sizes programs chart e d) events) r)
+      go (Ok d) rest = rest d
+      go (Err cause) rest = first
+
+-- ---- the letters are the messages
+
+abbrev pub msg_of : Letter → Msg
+msg_of l = l.msg
+
+-- each lane has its letters' messages, and they are of its class
+pub record IsFaithful (chart : Charted) : Type 0 where
+  pub letters : (a b : ℕ) (k : Class) → map msg_of (chart.letters a b k) ≡ chart.past.state.lane a b k
+  pub of_class : (a b : ℕ) (k : Class) → All (λ msg. same_class k (msg_class msg) ≡ true) (chart.past.state.lane a b k)
+
+letter-msgs : (number src dst : ℕ) (messages : List Msg) → map msg_of (map (letter number src dst) messages) ≡ messages
+letter-msgs number src dst [] = refl
+letter-msgs number src dst (m ∷ messages) = ap (λ ms. m ∷ ms) (letter-msgs number src dst messages)
+
+to_lane-class : (node : ℕ) (k : Class) (sends : List (ℕ × Msg)) → All (λ msg. same_class k (msg_class msg) ≡ true) (to_lane node k sends)
+to_lane-class node k [] = All-nil (λ msg. same_class k (msg_class msg) ≡ true)
+to_lane-class node k (send ∷ sends) = go (send.0 == node) (same_class k (msg_class send.1)) refl (to_lane-class node k sends)
+  where
+    go : (x y : Bool) → same_class k (msg_class send.1) ≡ y → All (λ msg. same_class k (msg_class msg) ≡ true) (to_lane node k sends) → All (λ msg. same_class k (msg_class msg) ≡ true) (cond (x && y) (send.1 ∷ to_lane node k sends) (to_lane node k sends))
+    go true true e rest = All-cons (λ msg. same_class k (msg_class msg) ≡ true) send.1 (to_lane node k sends) e rest
+    go true false e rest = rest
+    go false y e rest = rest
+
+faithful-first : (sizes : Sizes) → IsFaithful (first_chart sizes)
+faithful-first sizes = record {
+  letters = λ a b k. refl;
+  of_class = λ a b k. All-nil (λ msg. same_class k (msg_class msg) ≡ true);
+}
+
+module _ (sizes : Sizes) (programs : Programs) (chart : Charted) (event : Event) (done : Done) (faithful : IsFaithful chart) where
+  faithful-letters : (a b : ℕ) (k : Class) → map msg_of (letters_after (suc (length chart.strokes)) chart.letters done a b k) ≡ (past_after sizes chart.past done).state.lane a b k
+  faithful-letters a b k =
+      map-append msg_of (drop (done.off a b k) (chart.letters a b k)) (posted (suc (length chart.strokes)) a b k done)
+      ∙ ap (λ ms. ms ++ map msg_of (posted (suc (length chart.strokes)) a b k done)) (sym (drop-map msg_of (done.off a b k) (chart.letters a b k)) ∙ ap (λ ms. drop (done.off a b k) ms) (faithful.letters a b k))
+      ∙ ap (λ ms. drop (done.off a b k) (chart.past.state.lane a b k) ++ ms) (go (a == done.node))
+    where
+      go : (t : Bool) → map msg_of (cond t (map (letter (suc (length chart.strokes)) a b) (to_lane b k done.out.sends)) []) ≡ cond t (to_lane b k done.out.sends) []
+      go true = letter-msgs (suc (length chart.strokes)) a b (to_lane b k done.out.sends)
+      go false = refl
+
+  faithful-class : (a b : ℕ) (k : Class) → All (λ msg. same_class k (msg_class msg) ≡ true) ((past_after sizes chart.past done).state.lane a b k)
+  faithful-class a b k =
+      All-append (λ msg. same_class k (msg_class msg) ≡ true) (drop (done.off a b k) (chart.past.state.lane a b k)) (cond (a == done.node) (to_lane b k done.out.sends) [])
+      (All-drop (λ msg. same_class k (msg_class msg) ≡ true) (done.off a b k) (chart.past.state.lane a b k) (faithful.of_class a b k)) (go (a == done.node))
+    where
+      go : (t : Bool) → All (λ msg. same_class k (msg_class msg) ≡ true) (cond t (to_lane b k done.out.sends) [])
+      go true = to_lane-class b k done.out.sends
+      go false = All-nil (λ msg. same_class k (msg_class msg) ≡ true)
+
+  faithful-after : IsFaithful (charted_after sizes programs chart event done)
+  faithful-after = record { letters = faithful-letters; of_class = faithful-class }
+
+faithful : (m : MachineRun) → IsFaithful (chart_of m)
+faithful m = charted-keeps m.charge m.sizes m.programs IsFaithful (faithful-after m.sizes m.programs) (first_chart m.sizes) m.events (faithful-first m.sizes)
+
+-- ---- the letters that are noted are those of the run
+
+module _ (sizes : Sizes) (chart : Charted) (done : Done) (faithful : IsFaithful chart) where
+  abbrev number : ℕ
+  number = suc (length chart.strokes)
+
+  abbrev lanes : Lanes
+  lanes = (past_after sizes chart.past done).state.lane
+
+  -- what is new in a lane of the node
+  new-own : (a b : ℕ) (k : Class) (taken : List Letter) → a ≡ done.node → in_lane taken a b k ≡ drop (done.off a b k) (chart.letters a b k) →
+      in_lane taken a b k ++ new_letters number a b k taken (lanes a b k) ≡ letters_after number chart.letters done a b k
+  new-own a b k taken own is =
+      let left = drop (done.off a b k) (chart.past.state.lane a b k) in
+      let sent = to_lane b k done.out.sends in
+      let self : (a == done.node) ≡ true = grind (arith, nat_tests) in
+      let long : length (in_lane taken a b k) ≡ length left =
+      sym (length-map (in_lane taken a b k) msg_of) ∙ ap (λ (ls : List Letter). length (map msg_of ls)) is
+      ∙ ap (λ (ms : List Msg). length ms) (sym (drop-map msg_of (done.off a b k) (chart.letters a b k)) ∙ ap (λ (ms : List Msg). drop (done.off a b k) ms) (faithful.letters a b k)) in
+      let news : drop (length (in_lane taken a b k)) (lanes a b k) ≡ sent =
+      ap (λ (n : ℕ). drop n (left ++ cond (a == done.node) sent [])) long ∙ drop-append_seam left (cond (a == done.node) sent []) ∙ ap (λ (t : Bool). cond t sent []) self in
+      ap (λ (ms : List Msg). in_lane taken a b k ++ map (letter number a b) ms) news
+      ∙ ap (λ (ls : List Letter). ls ++ map (letter number a b) sent) is
+      ∙ ap (λ (t : Bool). drop (done.off a b k) (chart.letters a b k) ++ cond t (map (letter number a b) sent) []) (sym self)
+
+  -- nothing is new in another lane
+  new-other : (a b : ℕ) (k : Class) (taken : List Letter) → a ≢ done.node → in_lane taken a b k ≡ drop (done.off a b k) (chart.letters a b k) → in_lane taken a b k ≡ letters_after number chart.letters done a b k
+  new-other a b k taken other is =
+      let apart : (a == done.node) ≡ false = grind (arith, nat_tests) in
+      is ∙ sym (append-nil (drop (done.off a b k) (chart.letters a b k))) ∙ ap (λ (t : Bool). drop (done.off a b k) (chart.letters a b k) ++ cond t (map (letter number a b) (to_lane b k done.out.sends)) []) (sym apart)
+
+  pub new-letters : (n : ℕ) (taken new : List Letter) → ((a b : ℕ) (k : Class) → a < n → b < n → in_lane taken a b k ≡ drop (done.off a b k) (chart.letters a b k)) → ArePosted number done.node n lanes taken new →
+      (a b : ℕ) (k : Class) → a < n → b < n → in_lane new a b k ≡ letters_after number chart.letters done a b k
+  new-letters n taken new left posts a b k from to = go (a == done.node) refl
+    where
+      go : (t : Bool) → (a == done.node) ≡ t → in_lane new a b k ≡ letters_after number chart.letters done a b k
+      go true e =
+          let own : a ≡ done.node = grind (arith, nat_tests) in
+          subst (λ (node : ℕ). in_lane new node b k ≡ in_lane taken node b k ++ new_letters number node b k taken (lanes node b k)) (sym own) (posts.own b k to) ∙ new-own a b k taken own (left a b k from to)
+      go false e =
+          let other : a ≢ done.node = grind (arith, nat_tests) in
+          posts.others a b k other ∙ new-other a b k taken other (left a b k from to)
+
+-- ---- one event more
+
+module _ (was : MachineRun) (event : Event) (done : Done) (does : effect_on was event ≡ Ok done) (running : IsRunning was) where
+  abbrev after : MachineRun
+  after = with_event was event done
+
+  abbrev chart : Charted
+  chart = chart_of was
+
+  pub chart-next : chart_of after ≡ charted_after was.sizes was.programs chart event done
+  chart-next = charted-push was.charge was.sizes was.programs (first_chart was.sizes) was.past was.events event done running.ran does
+
+  pub chart-past : chart.past ≡ was.past
+  chart-past = charted-past was.charge was.sizes was.programs (first_chart was.sizes) was.past was.events running.ran
+
+  pub still-charted : (old : ChartView) (taken new : List Letter) (stroke : Stroke) (number node : ℕ) → IsChartOf was old → ((a b : ℕ) (k : Class) → in_lane taken a b k ≡ drop (off_by event a b k) (in_lane old.letters a b k)) →
+      (AreOfClass node was.sizes.nodes after.past.state.lane → ArePosted number node was.sizes.nodes after.past.state.lane taken new) →
+      number ≡ length old.strokes + 1 → node ≡ node_of was.sizes event → stroke ≡ stroke_of was.sizes was.programs number chart.letters was.past event after.past → IsChartOf after (record { letters = new; strokes = old.strokes ++ stroke ∷ [] })
+  unfolding strokes_of
+  still-charted old taken new stroke number node was_it left posts count at is =
+      let of_it = effect-is was.charge was.sizes was.programs was.past.state event done does in
+      let same_count : number ≡ suc (length chart.strokes) = omega (arith, count, ap (λ (ss : List Stroke). length ss) was_it.strokes) in
+      let same_node : node ≡ done.node = at ∙ sym of_it.0 in
+      let same_past : (charted_after was.sizes was.programs chart event done).past ≡ after.past = ap (λ (p : Past). past_after was.sizes p done) chart-past in
+      let of_class : AreOfClass node was.sizes.nodes after.past.state.lane = (λ dst k lt. subst (λ (p : Past). All (λ msg. same_class k (msg_class msg) ≡ true) (p.state.lane node dst k)) same_past ((faithful-after was.sizes was.programs chart event done (faithful was)).of_class node dst k)) in
+      let posted_all : ArePosted (suc (length chart.strokes)) done.node was.sizes.nodes (past_after was.sizes chart.past done).state.lane taken new =
+      subst (λ (p : Past). ArePosted (suc (length chart.strokes)) done.node was.sizes.nodes p.state.lane taken new) (sym same_past)
+      (subst (λ (k : ℕ). ArePosted k done.node was.sizes.nodes after.past.state.lane taken new) same_count
+      (subst (λ (k : ℕ). ArePosted number k was.sizes.nodes after.past.state.lane taken new) same_node (posts of_class))) in
+      let left_all : (a b : ℕ) (k : Class) → a < was.sizes.nodes → b < was.sizes.nodes → in_lane taken a b k ≡ drop (done.off a b k) (chart.letters a b k) =
+      (λ a b k from to. left a b k ∙ ap (λ (ls : List Letter). drop (off_by event a b k) ls) (was_it.letters a b k from to) ∙ ap (λ (off : Off). drop (off a b k) (chart.letters a b k)) (sym of_it.1)) in
+      let same_stroke : stroke ≡ stroke_of was.sizes was.programs (suc (length chart.strokes)) chart.letters chart.past event (past_after was.sizes chart.past done) =
+      is ∙ ap (λ (k : ℕ). stroke_of was.sizes was.programs k chart.letters was.past event after.past) same_count
+      ∙ ap (λ (p : Past). stroke_of was.sizes was.programs (suc (length chart.strokes)) chart.letters p event (past_after was.sizes p done)) (sym chart-past) in
+      record {
+        strokes = ap (λ (ss : List Stroke). ss ++ stroke ∷ []) was_it.strokes ∙ ap (λ (s : Stroke). chart.strokes ++ s ∷ []) same_stroke ∙ ap (λ (c : Charted). c.strokes) (sym chart-next);
+        letters = λ a b k from to. new-letters was.sizes chart done (faithful was) was.sizes.nodes taken new left_all posted_all a b k from to ∙ ap (λ (c : Charted). c.letters a b k) (sym chart-next);
+      }
+
+-- the letter that is taken is that of the run
+taken-same : (m : MachineRun) (old : ChartView) (event : Event) → IsEventOf m.sizes event → IsChartOf m old → letter_taken (in_lane old.letters) event ≡ letter_taken (chart_of m).letters event
+taken-same m old (Hit node) of is = refl
+taken-same m old (Issue node) of is = refl
+taken-same m old (Evict node line kind) of is = refl
+taken-same m old (Take src dst class victim) of is = ap (λ ls. slice_get ls 0) (is.letters src dst class of.0 of.1)
+taken-same m old (Reclaim line) of is = refl
+
+abbrev pub noted_stroke : ℕ → Event → Before → Option Letter → Option Entry → Option Entry → Stroke
+noted_stroke number event before sent served completed = record { number = number; event = event; node = before.node; line = before.line; letter = sent; served = served; completed = completed }
+
+-- what is done for an event, with the machine after it
+pub record IsNoted (now : MachineRun) (event : Event) (before : Before) (old : ChartView) (taken new : List Letter) (number : ℕ) (sent : Option Letter) (entry done : Option Entry) : Type 0 where
+  pub count : number ≡ length old.strokes + 1
+  pub taken_is : sent ≡ letter_taken (in_lane old.letters) event
+  pub left : (a b : ℕ) (k : Class) → in_lane taken a b k ≡ drop (off_by event a b k) (in_lane old.letters a b k)
+  pub posts : AreOfClass before.node now.sizes.nodes now.past.state.lane → ArePosted number before.node now.sizes.nodes now.past.state.lane taken new
+  pub served : entry ≡ slice_get now.past.served before.served
+  pub completed : done ≡ cond (nat_lt before.place (now.past.state.share before.node).place) (entry_at before.node before.place now.past.served) None
+
+module _ (was : MachineRun) (event : Event) (before : Before) (old : ChartView) (taken new : List Letter) (number : ℕ) (sent : Option Letter) (entry completed : Option Entry) (done : Done) (does : effect_on was event ≡ Ok done) (running : IsRunning was) (known : IsBefore was event before) (of : IsEventOf was.sizes event) (was_it : IsChartOf was old)
+    (is : IsNoted (with_event was event done) event before old taken new number sent entry completed) where
+  abbrev last : Past
+  last = past_after was.sizes was.past done
+
+  same-completed : completed ≡ cond (nat_lt (was.past.state.share (node_of was.sizes event)).place (last.state.share (node_of was.sizes event)).place) (entry_at (node_of was.sizes event) (was.past.state.share (node_of was.sizes event)).place last.served) None
+  same-completed =
+      is.completed
+      ∙ ap (λ (n : ℕ). cond (nat_lt before.place (last.state.share n).place) (entry_at n before.place last.served) None) known.node
+      ∙ ap (λ (p : ℕ). cond (nat_lt p (last.state.share (node_of was.sizes event)).place) (entry_at (node_of was.sizes event) p last.served) None) known.place
+
+  same-served : entry ≡ slice_get last.served (length was.past.served)
+  same-served = is.served ∙ ap (λ (n : ℕ). slice_get last.served n) known.served
+
+  same-sent : sent ≡ letter_taken (chart_of was).letters event
+  same-sent = is.taken_is ∙ taken-same was old event of was_it
+
+  same-stroke : noted_stroke number event before sent entry completed ≡ stroke_of was.sizes was.programs number (chart_of was).letters was.past event last
+  same-stroke = λ i. record { number = number; event = event; node = known.node i; line = known.line i; letter = same-sent i; served = same-served i; completed = same-completed i }
+
+  noted-after : IsChartOf (with_event was event done) (record { letters = new; strokes = old.strokes ++ noted_stroke number event before sent entry completed ∷ [] })
+  noted-after = still-charted was event done does running old taken new (noted_stroke number event before sent entry completed) number before.node was_it is.left is.posts is.count known.node same-stroke
+
+-- what was the chart of a run is the chart of the run with the event that was noted
+pub still-told : (was now : MachineRun) (event : Event) (before : Before) (inside old : ChartView) (taken new : List Letter) (strokes : List Stroke) (number : ℕ) (sent : Option Letter) (entry completed : Option Entry) →
+    IsRunning was → IsApplied was event now → IsBefore was event before → IsEventOf now.sizes event → inside ≡ old → IsChartOf was old → IsNoted now event before inside taken new number sent entry completed →
+    strokes ≡ inside.strokes ++ noted_stroke number event before sent entry completed ∷ [] → IsChartOf now (record { letters = new; strokes = strokes })
+still-told was now event before inside old taken new strokes number sent entry completed running applied known of same was_it is pushed =
+    let was_inside : IsChartOf was inside = subst (λ (v : ChartView). IsChartOf was v) (sym same) was_it in
+    let after_is : IsNoted (with_event was event applied.0) event before inside taken new number sent entry completed = subst (λ (m : MachineRun). IsNoted m event before inside taken new number sent entry completed) applied.2 is in
+    let of_was : IsEventOf was.sizes event = subst (λ (m : MachineRun). IsEventOf m.sizes event) applied.2 of in
+    subst (λ (ss : List Stroke). IsChartOf now (record { letters = new; strokes = ss })) (sym pushed)
+    (subst (λ (m : MachineRun). IsChartOf m (record { letters = new; strokes = inside.strokes ++ noted_stroke number event before sent entry completed ∷ [] })) (sym applied.2)
+    (noted-after was event before inside taken new number sent entry completed applied.0 applied.1 running known of_was was_inside after_is))
+
+-- ---- a run without events
+
+pub first-told : (m : MachineRun) → m.events ≡ [] → IsChartOf m (record { letters = []; strokes = [] })
+unfolding strokes_of
+first-told m none_yet = record {
+  strokes = ap (λ (es : List Event). (charted m.charge m.sizes m.programs (first_chart m.sizes) es).strokes) (sym none_yet);
+  letters = λ a b k from to. ap (λ (es : List Event). (charted m.charge m.sizes m.programs (first_chart m.sizes) es).letters a b k) (sym none_yet);
+}

@@ -1,0 +1,4 @@
+pub mod Filtered
+pub mod InLanes
+pub mod Posted
+pub mod Charting
