@@ -14,7 +14,7 @@ use std::thread::Threads;
 use thread_run::{Gate, Ran, Role, run_threads};
 
 /// A role of a node that is held back until another one has been called.
-#[derive(Clone, Copy, Debug)]
+#[derive(Clone, Copy)]
 struct Hold {
     role: (u32, Role),
     until: (u32, Role),
@@ -52,22 +52,32 @@ impl<'a, R: Wait> Gate for Holding<'a, R> {
     }
 }
 
-/// So many nodes, the journal as long as all logs together, and at least an event for each operation, all of which are done.
-fn check(rt: &impl Abort, ran: &Ran, nodes: usize, ops: usize) {
-    assert_eq!(rt; ran.nodes.len(), nodes);
-    assert_eq!(rt; ran.logs.len(), nodes);
+fn same(rt: &impl Abort, what: &str, found: u64, wanted: u64) {
+    assert_eq!(rt; found, wanted, "{what}");
+}
+
+fn entries_of(ran: &Ran) -> u64 {
     let mut entries = 0u64;
     for log in &ran.logs {
         entries = entries.saturating_add(log.len());
     }
-    assert_eq!(rt; entries, ran.journal.len() as u64);
+    entries
+}
+
+/// So many nodes, the journal as long as all logs together, and at least an event for each operation, all of which are done.
+fn check(rt: &impl Abort, ran: &Ran, nodes: usize, ops: usize) {
+    same(rt, "nodes", ran.nodes.len() as u64, nodes as u64);
+    same(rt, "logs", ran.logs.len() as u64, nodes as u64);
+    same(rt, "entries", entries_of(ran), ran.journal.len() as u64);
     assert!(rt; ran.journal.len() >= ops);
-    let mut done = 0u32;
+    let mut done = 0u64;
     for node in &ran.nodes {
-        assert_eq!(rt; node.proc().done_count(), node.proc().program().len());
-        done = done.saturating_add(node.proc().done_count());
+        let completed = u64::from(node.proc().done_count());
+        let program = u64::from(node.proc().program().len());
+        same(rt, "operations done of a program", completed, program);
+        done = done.saturating_add(completed);
     }
-    assert_eq!(rt; done as usize, ops);
+    same(rt, "operations done", done, ops as u64);
 }
 
 fn run<R: Abort + Threads + Wait + Sync>(
