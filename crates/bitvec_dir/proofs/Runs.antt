@@ -10,7 +10,7 @@ use Rattle.op_model.specs.Events.Step.{Done, Programs, after, and_then, effect}
 use Rattle.op_model.specs.Run.Counts.{Moment, moments, moments_then}
 use Rattle.op_model.specs.Run.History.{history}
 use Rattle.op_model.specs.Run.Runs.{Past, past_after, run, run_by, start}
-use Rattle.op_model.proofs.Runs.{moment_of}
+use Rattle.op_model.proofs.Public.{moment_of}
 use Rattle.bitvec_dir.specs.Linkless.{AreLinkless, IsLinkless, trace_moments, turns_on_links}
 use Rattle.bitvec_dir.proofs.Acts.{effect-alike}
 

@@ -5,7 +5,7 @@ use Rattle.op_model.specs.declared.operations.Op.{Op}
 use Rattle.op_model.specs.Programs.{programs_of}
 use Rattle.op_model.specs.Shares.{Trace, program}
 use Rattle.trace_text.specs.Traces.{IsTrace, programs_of as program_list}
-use Rattle.hist_check.proofs.Programs.{same-program}
+use Rattle.hist_check.proofs.Public.{same-program}
 
 pub listed : (trace : Trace) (programs : List (List Op)) → IsTrace trace → programs ≡ program_list trace → programs_of programs ≡ program trace
 listed trace programs is same = ap programs_of same ∙ (λ i node. same-program trace node is i)

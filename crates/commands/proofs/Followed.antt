@@ -10,7 +10,7 @@ use Rattle.op_model.specs.Run.History.{IsOneHistory}
 use Rattle.op_model.specs.Run.Machines.{MachineRun, IsEventOf}
 use Rattle.op_model.specs.Run.Runs.{Past, past_after, run, run_by, run_from, start}
 use Rattle.op_model.specs.Shares.{Trace, Charge, Linked}
-use Rattle.rest_laws.proofs.Deliver.{run-on}
+use Rattle.rest_laws.proofs.Public.{run-on}
 use Rattle.schedule.specs.Made.{HasFinished, gone_on}
 use Rattle.dir_report.specs.Machines.{report_of}
 use Rattle.step_journal.specs.Printing.{journal_text}

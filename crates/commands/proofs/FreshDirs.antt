@@ -5,7 +5,7 @@ use Rattle.std.proofs.lemmas.Bool.Decides.{nat_tests}
 use Rattle.std.proofs.lemmas.List.{length-replicate}
 use Rattle.std.proofs.lemmas.Option.{same_Some}
 use Rattle.line_map.specs.Sizes.{Sizes, AreSizes}
-use Rattle.op_model.proofs.Plain.{map-replicate}
+use Rattle.op_model.proofs.Public.{map-replicate}
 use Rattle.dir_header.specs.Sharers.{Directory}
 use Rattle.dir_header.specs.HomeSides.{IsFresh}
 use Rattle.machine.specs.Starts.{AreFresh, IsFreshOf, charge_of}

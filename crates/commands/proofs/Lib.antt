@@ -7,3 +7,4 @@ pub mod FreshDirs
 pub mod Started
 pub mod Followed
 pub mod Shown
+pub mod Public

@@ -6,7 +6,7 @@ use Rattle.op_model.specs.declared.events.Event.{Event}
 use Rattle.op_model.specs.Events.Step.{effect}
 use Rattle.op_model.specs.Run.Machines.{MachineRun, IsApplied, effect_on}
 use Rattle.op_model.specs.Run.Runs.{Past, past_after, run_by}
-use Rattle.op_model.proofs.Runs.{run-push}
+use Rattle.op_model.proofs.Public.{run-push}
 use Rattle.machine_face.specs.Runs.{IsRefused}
 use Rattle.machine_face.specs.declared.refusal.ApplyError.{ApplyError}
 use Rattle.machine_face.specs.declared.refusal.ApplyError.TheVariants.{NotEnabled, Memory}

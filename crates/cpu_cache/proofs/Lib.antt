@@ -4,3 +4,4 @@ pub mod Sets
 pub mod Copies
 pub mod Writes
 pub mod Shares
+pub mod Public

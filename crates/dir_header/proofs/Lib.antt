@@ -13,3 +13,4 @@ pub mod LinkedLines
 pub mod Start
 pub mod Shares
 pub mod Unlisted
+pub mod Public

@@ -5,7 +5,7 @@ use Rattle.line_map.specs.Sizes.{home_of}
 use Rattle.op_model.specs.Nodes.{listed, unlist}
 use Rattle.op_model.specs.Shares.{first_header, header_in}
 use Rattle.op_model.specs.Tables.Remote.{is_invalidate}
-use Rattle.op_model.proofs.Plain.{some_held}
+use Rattle.op_model.proofs.Public.{some_held}
 use Rattle.dir_header.specs.Sharers.{Directory, list_at, with_list}
 use Rattle.dir_header.specs.HomeSides.{HomeView, IsHome, header_at, unlisted, with_header}
 use Rattle.dir_header.proofs.Directories.{unlist-none, unlist-same}

@@ -5,8 +5,8 @@ use Rattle.line_map.specs.Sizes.{Sizes, home_of}
 use Rattle.op_model.specs.Lines.{Header, is_pending}
 use Rattle.op_model.specs.Shares.{first_header, header_in, pending_lines}
 use Rattle.op_model.specs.Run.Runs.{start, start_share}
-use Rattle.op_model.proofs.Shares.{first_headers-same}
-use Rattle.dir_header.proofs.Sums.{sum-first}
+use Rattle.op_model.proofs.Public.{first_headers-same}
+use Rattle.dir_header.proofs.Public.{sum-first}
 use Rattle.dir_report.specs.Reports.{header_at}
 
 pub header_first : (sizes : Sizes) (line : ℕ) → header_at sizes (start sizes).state line ≡ first_header sizes

@@ -16,8 +16,7 @@ use Rattle.machine_face.specs.declared.refusal.ApplyError.TheVariants.{NotEnable
 use Rattle.step_journal.specs.Steps.{IsStep}
 use Rattle.trace_text.specs.Traces.{IsTrace, programs_of}
 use Rattle.commands.specs.Steps.{stopped_at}
-use Rattle.commands.proofs.Followed.{event-of}
-use Rattle.commands.proofs.Programs.{all-programs}
+use Rattle.commands.proofs.Public.{all-programs, event-of}
 use Rattle.eager_model.specs.Runs.{Past, run, start}
 use Rattle.eager_model.specs.Step.{effect}
 use Rattle.eager_machine.specs.Machines.{EagerMachineView, IsRefusedFor, effect_in, run_of}

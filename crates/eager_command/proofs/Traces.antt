@@ -6,7 +6,7 @@ use Rattle.op_model.specs.Programs.{IsOrderOf, programs_of}
 use Rattle.op_model.specs.Shares.{Trace}
 use Rattle.schedule_laws.specs.Ends.{IsInOrder}
 use Rattle.trace_text.specs.Traces.{IsTrace}
-use Rattle.commands.proofs.Programs.{all-programs, programs-in}
+use Rattle.commands.proofs.Public.{all-programs, programs-in}
 use Rattle.eager_model.specs.Runs.{run, run_by, start}
 use Rattle.eager_machine.specs.Machines.{EagerMachineView, run_of}
 use Rattle.eager_command.specs.Played.{machine_of}

@@ -12,15 +12,13 @@ use Rattle.op_model.specs.Operations.{Words, entry_of, is_load, after_op}
 use Rattle.op_model.specs.Run.History.{entries_by}
 use Rattle.op_model.specs.Shares.{Trace}
 use Rattle.line_invariant.specs.Line.{words_after}
-use Rattle.line_invariant.proofs.LocalNodes.{after-load}
+use Rattle.line_invariant.proofs.Public.{after-load}
 use Rattle.eager_model.specs.Types.{Op}
 use Rattle.eager_model.specs.Runs.{AgedEntry}
 use Rattle.eager_model.specs.History.{put_by_age, in_age_order}
 use Rattle.eager_model.specs.Line.{last_after}
 use Rattle.one_history.specs.Project.{words_at, line_words}
-use Rattle.one_history.proofs.Flat.{entry-here, entry-legal}
-use Rattle.one_history.proofs.Order.{by-append}
-use Rattle.one_history.proofs.Sound.{after-append, legal-append}
+use Rattle.one_history.proofs.Public.{after-append, by-append, entry-here, entry-legal, legal-append}
 use Rattle.eager_history.specs.Project.{plain, served_on, history_on, up_to, words_up_to, last_age}
 use Rattle.eager_history.specs.Sound.{IsPastOf}
 use Rattle.eager_history.proofs.InOrder as sorted

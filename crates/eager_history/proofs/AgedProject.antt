@@ -17,8 +17,8 @@ use Rattle.eager_model.specs.Node.{put_ages}
 use Rattle.eager_model.specs.Runs.{AgedEntry, Past}
 use Rattle.one_history.specs.Project.{of_line, project}
 use Rattle.one_history.specs.Sound.{answered_of}
-use Rattle.one_history.proofs.Project.{project-row, project-other, project-taken, project-taken-other, project-marks}
-use Rattle.one_history.proofs.Shares.{IsOn, after_row_of, taken_of}
+use Rattle.one_history.proofs.Public.{IsOn, after_row_of, project-marks, project-other, project-row}
+use Rattle.one_history.proofs.Public.{project-taken, project-taken-other, taken_of}
 use Rattle.eager_model.specs.History.{in_age_order}
 use Rattle.eager_history.specs.Project.{plain_past, served_on, history_on, up_to, last_age, ages_on, aged_line}
 use Rattle.eager_history.proofs.Added.{words_of, IsAdded}

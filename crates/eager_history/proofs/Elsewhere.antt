@@ -7,13 +7,13 @@ use Rattle.op_model.specs.Messages.{Content, FAck, FwdGet, FwdGetX, Get, GetX, I
 use Rattle.op_model.specs.Operations.{is_load}
 use Rattle.op_model.specs.Tables.Processor.{ask, serves}
 use Rattle.op_model.specs.Tables.Processor as delayed_processor
-use Rattle.op_model.proofs.Plain.{err-ok}
+use Rattle.op_model.proofs.Public.{err-ok}
 use Rattle.line_invariant.specs.Rows.{with_header, with_header_ok}
-use Rattle.line_invariant.proofs.Away as delayed
-use Rattle.line_invariant.proofs.Basics.{if-either}
+use Rattle.line_invariant.proofs.Public as delayed
+use Rattle.line_invariant.proofs.Public.{if-either}
 use Rattle.eager_model.specs.Types.{Cause, Op}
 use Rattle.eager_model.specs.Rows.{begin_op, meets, on_message}
-use Rattle.eager_model.proofs.AnyLine.{eager-elsewhere, begins-elsewhere}
+use Rattle.eager_model.proofs.Public.{begins-elsewhere, eager-elsewhere}
 
 module _ (me home : ℕ) (apart : me ≢ home) (share : LineShare) (h : Header) where
   pub away-meets : (from : ℕ) (alone : Bool) (content : Content) → meets me home from alone content (record share { header = h }) ≡ meets me home from alone content share

@@ -5,7 +5,7 @@ use Rattle.op_model.specs.Events.Node.{EvictLine, HitNext, Input, IssueNext, Nod
 use Rattle.op_model.specs.Events.Node as delayed
 use Rattle.op_model.specs.Events.Step.{Off, has_room, none_off, one_off}
 use Rattle.op_model.specs.Shares.{Share, Trace, program}
-use Rattle.op_model.proofs.Plain.{err-ok}
+use Rattle.op_model.proofs.Public.{err-ok}
 use Rattle.line_invariant.specs.Types.{LaneEmpty}
 use Rattle.eager_model.specs.Types.{Cause, Class, Event, Evict, Hit, Issue, Msg, Reclaim, Request, Take, VictimUnasked}
 use Rattle.eager_model.specs.Node.{aged, issue_next, local}

@@ -5,14 +5,14 @@ use Rattle.op_model.specs.Messages.{Content, msg_content, msg_line, same_class}
 use Rattle.op_model.specs.Events.Node.{messages}
 use Rattle.op_model.specs.Events.Step.{to_lane, one_off}
 use Rattle.op_model.specs.Shares.{Lanes}
-use Rattle.op_model.proofs.Shares.{same_class-is}
+use Rattle.op_model.proofs.Public.{same_class-is}
 use Rattle.line_invariant.specs.Line.{addressed}
 use Rattle.eager_model.specs.Types.{Class, Msg}
 use Rattle.eager_model.specs.Ages.{sent_age}
 use Rattle.eager_model.specs.Line.{taken_age}
 use Rattle.eager_model.specs.Step.{first_age}
 use Rattle.one_history.specs.Project.{of_line}
-use Rattle.one_history.proofs.Shares.{of_line-same, of_line-other, taken_of}
+use Rattle.one_history.proofs.Public.{of_line-other, of_line-same, taken_of}
 use Rattle.eager_history.specs.Project.{ages_on}
 
 pub ages-append : (line : ℕ) (ms ns : List Msg) (xs bs : List ℕ) → length xs ≡ length ms → ages_on line (ms ++ ns) (xs ++ bs) ≡ ages_on line ms xs ++ ages_on line ns bs

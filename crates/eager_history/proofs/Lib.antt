@@ -11,3 +11,4 @@ pub mod Takes
 pub mod Events
 pub mod Runs
 pub mod LineHistory
+pub mod Public

@@ -7,18 +7,18 @@ use Rattle.op_model.specs.Flat.{IsLegal}
 use Rattle.op_model.specs.Operations.{is_load}
 use Rattle.op_model.specs.Run.History.{Follows, IsNext, entries_by, is_completed, kept_of}
 use Rattle.op_model.specs.Shares.{State, Trace, program, want_on}
-use Rattle.op_model.proofs.Plain.{eqb-self}
+use Rattle.op_model.proofs.Public.{eqb-self}
 use Rattle.line_invariant.specs.Rows.{wanting}
 use Rattle.eager_model.specs.Types.{Entry, Op, Want}
 use Rattle.eager_model.specs.History.{in_age_order, line_history}
 use Rattle.eager_model.specs.Laws.{FollowsOn, NextOn, IsLineHistory}
 use Rattle.eager_model.specs.Runs.{AgedEntry, Past}
-use Rattle.eager_model.proofs.EachLine.{any-writes}
+use Rattle.eager_model.proofs.Public.{any-writes}
 use Rattle.one_history.specs.Project.{project}
 use Rattle.one_history.specs.Sound.{IsBegunWell, answered_of}
-use Rattle.one_history.proofs.Completed.{Done_or_load, both-some, by-node, follows-each, legal-kept, long-one, of-node, short-one}
-use Rattle.one_history.proofs.Completed as entries
-use Rattle.one_history.proofs.OneHistory.{by-kept, kept-first}
+use Rattle.one_history.proofs.Public.{Done_or_load, both-some, by-kept, by-node, follows-each, kept-first}
+use Rattle.one_history.proofs.Public.{legal-kept, long-one, of-node, short-one}
+use Rattle.one_history.proofs.Public as entries
 use Rattle.eager_history.specs.Project.{plain, plain_past, served_on, history_on, aged_line}
 use Rattle.eager_history.specs.Sound.{Each, IsEagerSound}
 use Rattle.eager_history.proofs.InOrder.{each-filter, each-put-all, filter-order}

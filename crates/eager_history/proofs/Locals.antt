@@ -8,28 +8,22 @@ use Rattle.op_model.specs.Lines.{Copy, LineShare, NoService, Own, For, Outcome, 
 use Rattle.op_model.specs.Operations.{Words}
 use Rattle.op_model.specs.Shares.{Share, Trace, Unlinked, conflicts, copy_of, line_share, program, room_of, share_at, want_on}
 use Rattle.op_model.specs.Tables.Processor.{evict, hit, reclaim, serves}
-use Rattle.op_model.proofs.Plain.{err-ok}
-use Rattle.op_model.proofs.Shares.{serves-copy, free-want, none-on}
+use Rattle.op_model.proofs.Public.{err-ok, free-want, none-on, serves-copy}
 use Rattle.line_invariant.specs.Types.{EvictKind, LaneGate}
 use Rattle.line_invariant.specs.Line.{share_of}
 use Rattle.line_invariant.specs.Rows.{IsDoneRight, IsOwnServed, IsOwnWant}
-use Rattle.line_invariant.proofs.Away.{away-evict}
-use Rattle.line_invariant.proofs.Basics.{if-either}
+use Rattle.line_invariant.proofs.Public.{away-evict, if-either}
 use Rattle.eager_model.specs.Types.{Cause, Op, Want}
 use Rattle.eager_model.specs.Ages.{LineAges, ages_begun, ages_left, filled_age}
 use Rattle.eager_model.specs.Line.{AgedLine, ages_of}
 use Rattle.eager_model.specs.Node.{aged, issue_next, line_ages}
 use Rattle.eager_model.specs.Rows.{begin_op}
 use Rattle.eager_model.specs.Runs.{Past, past_after}
-use Rattle.eager_model.proofs.EachLine.{any-idle, any-hit, any-begin, any-leave}
+use Rattle.eager_model.proofs.Public.{any-begin, any-hit, any-idle, any-leave}
 use Rattle.one_history.specs.Project.{project}
 use Rattle.one_history.specs.Sound.{IsNextOp, answered_of}
-use Rattle.one_history.proofs.Events.{IsQuiet, evict-quiet, hit-away}
-use Rattle.one_history.proofs.Order.{IsNextWant, begun-next}
-use Rattle.one_history.proofs.Owns.{own-ok, own-row}
-use Rattle.one_history.proofs.Sets.{room-issue}
-use Rattle.one_history.proofs.Shares.{copy-same}
-use Rattle.one_history.proofs.Sound.{IsServedIn}
+use Rattle.one_history.proofs.Public.{IsNextWant, IsQuiet, IsServedIn, begun-next, copy-same, evict-quiet}
+use Rattle.one_history.proofs.Public.{hit-away, own-ok, own-row, room-issue}
 use Rattle.eager_history.specs.Project.{plain_past, aged_line}
 use Rattle.eager_history.specs.Sound.{IsEagerSound}
 use Rattle.eager_history.proofs.Elsewhere.{away-begin, away-asks}

@@ -14,8 +14,8 @@ use Rattle.op_model.specs.Shares.{Share, Trace, program, put_share, want_on}
 use Rattle.line_invariant.specs.Line.{answered_after}
 use Rattle.line_invariant.specs.Rows.{IsDoneRight, IsLoadWanted, wanting}
 use Rattle.one_history.specs.Sound.{IsOrdered, answered_in, answered_of, is_begun_on}
-use Rattle.one_history.proofs.Order.{IsNextWant, begun-next, by-append, ordered-done, ordered-own, ordered-row, ordered-served}
-use Rattle.one_history.proofs.Sound.{IsServedIn, next-entry}
+use Rattle.one_history.proofs.Public.{IsNextWant, IsServedIn, begun-next, by-append, next-entry, ordered-done}
+use Rattle.one_history.proofs.Public.{ordered-own, ordered-row, ordered-served}
 
 -- a node after a row, with its entries and its mark
 module _ (trace : Trace) (past : Past) (ordered : (n : ℕ) → IsOrdered trace n (past.state.share n) (entries_by n past.served)) (node line : ℕ) (at_home : Bool) (row : LineShare) where

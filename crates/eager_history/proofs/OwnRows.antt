@@ -19,11 +19,8 @@ use Rattle.eager_model.specs.Runs.{Past, past_after}
 use Rattle.eager_model.specs.Served.{age_served, IsServedAt}
 use Rattle.one_history.specs.Project.{project}
 use Rattle.one_history.specs.Sound.{answered_of}
-use Rattle.one_history.proofs.Order.{IsNextWant, next-on}
-use Rattle.one_history.proofs.Owns.{IsOwn, own-past}
-use Rattle.one_history.proofs.Sets.{IsRoomFor}
-use Rattle.one_history.proofs.Shares.{IsOn, copy-same}
-use Rattle.one_history.proofs.Sound.{IsServedIn}
+use Rattle.one_history.proofs.Public.{IsNextWant, IsOn, IsOwn, IsRoomFor, IsServedIn, copy-same, next-on}
+use Rattle.one_history.proofs.Public.{own-past}
 use Rattle.eager_history.specs.Project.{plain_past, aged_line}
 use Rattle.eager_history.specs.Sound.{IsEagerSound}
 use Rattle.eager_history.proofs.AgedProject.{row_past, with_lanes, entries_at}

@@ -8,10 +8,10 @@ use Rattle.eager_model.specs.Good.{IsEagerGood}
 use Rattle.eager_model.specs.Line.{first_line}
 use Rattle.eager_model.specs.Runs.{Past, past_after, run, run_by, start}
 use Rattle.eager_model.specs.Step.{AgedDone, effect}
-use Rattle.eager_model.proofs.FirstLine.{good-first-line}
+use Rattle.eager_model.proofs.Public.{good-first-line}
 use Rattle.one_history.specs.Project.{line_words}
-use Rattle.one_history.proofs.Runs.{first-line}
-use Rattle.one_history.proofs.Runs as delayed
+use Rattle.one_history.proofs.Public.{first-line}
+use Rattle.one_history.proofs.Public as delayed
 use Rattle.eager_history.specs.Project.{aged_line}
 use Rattle.eager_history.specs.Sound.{IsEagerSound, IsLineSound}
 use Rattle.eager_history.proofs.AgedProject.{same_aged}

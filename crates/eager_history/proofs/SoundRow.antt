@@ -12,7 +12,7 @@ use Rattle.op_model.specs.Operations.{Words, is_load}
 use Rattle.op_model.specs.Run.History.{entries_by}
 use Rattle.op_model.specs.Run.Runs.{entries_of, entry_for}
 use Rattle.op_model.specs.Shares.{Lanes, Trace, put_share, want_on}
-use Rattle.op_model.proofs.Plain.{eqb-self}
+use Rattle.op_model.proofs.Public.{eqb-self}
 use Rattle.line_invariant.specs.Line.{share_of, answered_after}
 use Rattle.line_invariant.specs.Rows.{IsDoneRight, IsLoadWanted}
 use Rattle.eager_model.specs.Types.{Class, Entry, Want}
@@ -22,14 +22,11 @@ use Rattle.eager_model.specs.Line.{AgedLine, ages_of, aged_row}
 use Rattle.eager_model.specs.Good.{IsEagerGood}
 use Rattle.eager_model.specs.Runs.{AgedEntry, Past}
 use Rattle.eager_model.specs.Served.{IsServedAt, IsServedOn}
-use Rattle.eager_model.proofs.EachLine.{any-idle}
-use Rattle.eager_model.proofs.ServedAt.{above}
+use Rattle.eager_model.proofs.Public.{above, any-idle}
 use Rattle.one_history.specs.Project.{project}
 use Rattle.one_history.specs.Sound.{IsCached, IsOrdered, answered_of}
-use Rattle.one_history.proofs.Order.{IsNextWant, begun-next, next-on}
-use Rattle.one_history.proofs.Sets.{IsRoomFor, cached-row}
-use Rattle.one_history.proofs.Shares.{IsOn}
-use Rattle.one_history.proofs.Sound.{IsServedIn}
+use Rattle.one_history.proofs.Public.{IsNextWant, IsOn, IsRoomFor, IsServedIn, begun-next, cached-row}
+use Rattle.one_history.proofs.Public.{next-on}
 use Rattle.eager_history.specs.Project.{plain, plain_past, served_on, last_age, aged_line}
 use Rattle.eager_history.specs.Sound.{Each, IsPastOf, IsLineSound, IsEagerSound}
 use Rattle.eager_history.proofs.Added.{IsAdded, none-added, load-added, for-added, write-added}

@@ -19,16 +19,12 @@ use Rattle.eager_model.specs.Rows.{meets, on_message, row_of}
 use Rattle.eager_model.specs.Runs.{Past, past_after}
 use Rattle.eager_model.specs.Served.{age_taken, IsServedAt}
 use Rattle.eager_model.specs.Step.{first_age}
-use Rattle.eager_model.proofs.AnyLine.{eager-alone, eager-empty, eager-want}
-use Rattle.eager_model.proofs.EachLine.{any_room, any-front, any-take, any-served, any-aged, any-done, any-writes, any-bare, any-local}
+use Rattle.eager_model.proofs.Public.{any-aged, any-bare, any-done, any-front, any-local, any-served}
+use Rattle.eager_model.proofs.Public.{any-take, any-writes, any_room, eager-alone, eager-empty, eager-want}
 use Rattle.one_history.specs.Project.{of_line, project}
 use Rattle.one_history.specs.Sound.{IsNextOp, answered_of}
-use Rattle.one_history.proofs.Order.{IsNextWant, begun-next, wanted}
-use Rattle.one_history.proofs.Owns.{IsOwn, at-home, one-dropped, own-row}
-use Rattle.one_history.proofs.Rows.{kept-fits}
-use Rattle.one_history.proofs.Sets.{waits-alone}
-use Rattle.one_history.proofs.Shares.{of_line-front, taken_of}
-use Rattle.one_history.proofs.Sound.{IsServedIn}
+use Rattle.one_history.proofs.Public.{IsNextWant, IsOwn, IsServedIn, at-home, begun-next, kept-fits}
+use Rattle.one_history.proofs.Public.{of_line-front, one-dropped, own-row, taken_of, waits-alone, wanted}
 use Rattle.eager_history.specs.Project.{plain_past, ages_on, aged_line}
 use Rattle.eager_history.specs.Sound.{IsEagerSound}
 use Rattle.eager_history.proofs.AgedProject.{with_lanes, project-aged-taken, project-aged-taken-other}

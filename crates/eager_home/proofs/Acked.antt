@@ -11,8 +11,7 @@ use Rattle.eager_model.specs.Rows.{on_inv_ack, drained_list}
 use Rattle.cpu_cache.specs.Processors.{ProcView}
 use Rattle.dir_header.specs.HomeSides.{HomeView, header_at, with_header, relisted, unlisted}
 use Rattle.node_share.specs.Parts.{share_of, row_at, AreCopies}
-use Rattle.node_share.proofs.Homes.{Puts, puts-once, puts-then, puts-as}
-use Rattle.node_share.proofs.Rows.{header-row}
+use Rattle.node_share.proofs.Public.{Puts, header-row, puts-as, puts-once, puts-then}
 
 few-test : (acks : ℕ) → acks ≤ 1 → nat_le acks 1 ≡ true
 few-test acks few = grind (arith, nat_tests)

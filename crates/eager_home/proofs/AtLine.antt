@@ -7,9 +7,9 @@ use Rattle.op_model.specs.Messages.{msg_line}
 use Rattle.op_model.specs.Shares.{Share, copy_in, line_share, put_share}
 use Rattle.op_model.specs.Tables.Processor.{hit}
 use Rattle.op_model.specs.Events.Node.{EvictLine, HitNext, Input, IssueNext, NodeOutcome, TakeFrom, by_row}
-use Rattle.node_share.proofs.Copies.{copy-put_other}
+use Rattle.node_share.proofs.Public.{copy-put_other}
 use Rattle.eager_model.specs.Node.{local, taking}
-use Rattle.eager_part.proofs.EachAct.{each-act}
+use Rattle.eager_part.proofs.Public.{each-act}
 use Rattle.eager_home.specs.Aged.{line_named}
 use Rattle.eager_home.specs.Ages.{line_next}
 

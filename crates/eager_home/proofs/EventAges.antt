@@ -6,7 +6,7 @@ use Rattle.op_model.specs.Lines.{LineShare, Outcome, is_exclusive}
 use Rattle.op_model.specs.Operations.{Words}
 use Rattle.op_model.specs.Shares.{Share, line_share}
 use Rattle.op_model.specs.Events.Node.{IssueNext, NodeOutcome, with_next}
-use Rattle.line_invariant.proofs.Basics.{if-either}
+use Rattle.line_invariant.proofs.Public.{if-either}
 use Rattle.eager_model.specs.Ages.{LineAges, filled_age}
 use Rattle.eager_model.specs.Node.{ages_by, issue_next, local, row_done}
 use Rattle.cpu_cache.specs.Effects.{done_of, entry_at}

@@ -15,9 +15,8 @@ use Rattle.cpu_cache.specs.Caches.{CacheView, with_copy}
 use Rattle.dir_header.specs.HomeSides.{HomeView, header_at, with_header, unlisted, made_pending}
 use Rattle.msg_words.specs.SendList.{SendList}
 use Rattle.node_share.specs.Parts.{sent}
-use Rattle.node_share.proofs.Homes.{Puts, puts-then, puts-read}
-use Rattle.node_share.proofs.Rows.{home-row}
-use Rattle.home_getx.proofs.Gives.{Does, called-in}
+use Rattle.node_share.proofs.Public.{Puts, home-row, puts-read, puts-then}
+use Rattle.home_getx.proofs.Public.{Does, called-in}
 
 -- which row is done
 pub eager-getx : (room : Room) (src : ℕ) (share : LineShare) → asks_shared room src share.header ≡ true → on_getx room src share ≡ give_and_drain src share

@@ -5,11 +5,11 @@ use Rattle.op_model.specs.declared.messages.Msg.{Msg}
 use Rattle.op_model.specs.declared.messages.Msg.TheVariants as msg
 use Rattle.op_model.specs.Messages.{msg_content}
 use Rattle.op_model.specs.Lines.{LineShare, Outcome, Room}
-use Rattle.line_invariant.proofs.Basics.{if-either}
+use Rattle.line_invariant.proofs.Public.{if-either}
 use Rattle.eager_model.specs.Rows.{asks_shared, on_getx, on_inv_ack}
 use Rattle.magic_node.specs.Nodes.{is_for_home}
-use Rattle.magic_node.proofs.Handled.{IsQuiet}
-use Rattle.magic_node.proofs.Handled as delayed
+use Rattle.magic_node.proofs.Public.{IsQuiet}
+use Rattle.magic_node.proofs.Public as delayed
 use Rattle.eager_home.specs.Nodes.{is_for_list}
 
 pub getx-quiet : (room : Room) (src : ℕ) (share : LineShare) → IsQuiet (on_getx room src share)

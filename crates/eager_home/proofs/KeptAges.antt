@@ -8,7 +8,7 @@ use Rattle.op_model.specs.Events.Node.{Input, NodeOutcome}
 use Rattle.op_model.specs.Shares.{Share}
 use Rattle.op_model.specs.Programs.{IsProgramOf}
 use Rattle.message_range.specs.Fitting.{IsInputForOther, IsInputOf, IsSentOf, IsShareOf}
-use Rattle.message_range.proofs.Acts.{IsActed}
+use Rattle.message_range.proofs.Public.{IsActed}
 use Rattle.cpu_cache.specs.Caches.{CacheView}
 use Rattle.cpu_cache.specs.Processors.{ProcView}
 use Rattle.dir_header.specs.HomeSides.{HomeView}
@@ -16,8 +16,7 @@ use Rattle.msg_words.specs.SendList.{SendList}
 use Rattle.magic_node.specs.Nodes.{HasSent, node_share}
 use Rattle.eager_model.specs.Node.{NodeAges, local}
 use Rattle.eager_part.specs.Part.{IsEagerPart}
-use Rattle.eager_part.proofs.Acts.{eager_act}
-use Rattle.eager_part.proofs.Sends.{eager_sends}
+use Rattle.eager_part.proofs.Public.{eager_act, eager_sends}
 use Rattle.eager_home.specs.Aged.{AgedActs}
 use Rattle.eager_home.specs.Ages.{AgeLists, AreAgeLists, ages_of}
 use Rattle.eager_home.specs.Nodes.{IsEagerNode}

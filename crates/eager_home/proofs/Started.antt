@@ -7,8 +7,8 @@ use Rattle.op_model.specs.declared.operations.Op.{Op}
 use Rattle.op_model.specs.Run.Runs.{start_share}
 use Rattle.op_model.specs.Shares.{Unlinked}
 use Rattle.op_model.specs.Programs.{IsProgramOf}
-use Rattle.message_range.proofs.Runs.{share-first}
-use Rattle.eager_part.proofs.Starts.{eager_first}
+use Rattle.message_range.proofs.Public.{share-first}
+use Rattle.eager_part.proofs.Public.{eager_first}
 use Rattle.cpu_cache.specs.Caches.{CacheView}
 use Rattle.cpu_cache.specs.Processors.{ProcView}
 use Rattle.dir_header.specs.HomeSides.{HomeView}

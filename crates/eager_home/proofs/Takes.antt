@@ -17,7 +17,7 @@ use Rattle.eager_model.specs.Node.{ages_by, local, meets_row, taking}
 use Rattle.eager_model.specs.Rows.{meets, on_message}
 use Rattle.message_range.specs.Fitting.{IsShareOf}
 use Rattle.eager_part.specs.Part.{IsEagerPart}
-use Rattle.eager_part.proofs.Needs.{get-met, shwb-met, wb-met}
+use Rattle.eager_part.proofs.Public.{get-met, shwb-met, wb-met}
 use Rattle.msg_words.specs.SendList.{SendList}
 use Rattle.node_share.specs.Parts.{row_at, sent}
 use Rattle.node_share.specs.Effects.{Acts}

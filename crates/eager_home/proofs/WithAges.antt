@@ -10,7 +10,7 @@ use Rattle.op_model.specs.Events.Node.{Input}
 use Rattle.eager_model.specs.Ages.{LineAges, age_given, served_age, with_copy}
 use Rattle.eager_model.specs.Node.{NodeAges, aged, ages_by, line_ages, local, put_ages}
 use Rattle.eager_part.specs.Part.{IsEagerPart}
-use Rattle.eager_part.proofs.Acts.{eager_act}
+use Rattle.eager_part.proofs.Public.{eager_act}
 use Rattle.cpu_cache.specs.Effects.{served_of}
 use Rattle.cpu_cache.specs.declared.effects.Effect.{Effect}
 use Rattle.msg_words.specs.SendList.{SendList}

@@ -8,7 +8,7 @@ use Rattle.op_model.specs.Messages.{Content, Get, GetX, FwdGet, FwdGetX, Inv, Wb
 use Rattle.op_model.specs.Operations.{Words}
 use Rattle.op_model.specs.Shares.{Share, copy_of, line_share}
 use Rattle.op_model.specs.Events.Node.{Input, NodeOutcome, TakeFrom}
-use Rattle.line_invariant.proofs.Basics.{if-either}
+use Rattle.line_invariant.proofs.Public.{if-either}
 use Rattle.eager_model.specs.Ages.{LineAges, age_given, ages_begun, ages_left, ages_taken, filled_age, served_age, with_copy}
 use Rattle.eager_model.specs.Node.{NodeAges, aged, ages_by, line_ages, meets_row, put_ages, row_done}
 use Rattle.magic_node.specs.declared.acts.LocalEvent.{LocalEvent}

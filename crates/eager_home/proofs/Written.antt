@@ -12,9 +12,8 @@ use Rattle.op_model.specs.Tables.Processor.{serves, invalidate_for_home}
 use Rattle.op_model.specs.Tables.Processor as delayed_rows
 use Rattle.op_model.specs.Events.Node.{IssueNext, NodeOutcome, by_row, map_ok, permit, with_next}
 use Rattle.op_model.specs.Events.Node as delayed
-use Rattle.op_model.proofs.Shares.{free-want}
-use Rattle.pi_handlers.proofs.Acting.{permit-map}
-use Rattle.pi_handlers.proofs.Rows.{allowed-idle, allowed-room, begin-called, write-waits}
+use Rattle.op_model.proofs.Public.{free-want}
+use Rattle.pi_handlers.proofs.Public.{allowed-idle, allowed-room, begin-called, permit-map, write-waits}
 use Rattle.eager_model.specs.Node.{issue_next, local}
 use Rattle.eager_model.specs.Rows.{begin_op, write_and_drain, writes_shared}
 

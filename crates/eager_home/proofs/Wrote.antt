@@ -18,9 +18,7 @@ use Rattle.dir_header.specs.HomeSides.{HomeView, header_at, made_pending, with_h
 use Rattle.msg_words.specs.SendList.{SendList}
 use Rattle.node_share.specs.Parts.{copy_done, sent, share_of, DoesRow}
 use Rattle.node_share.specs.Effects.{Acts}
-use Rattle.node_share.proofs.Homes.{Puts, puts-once, puts-read, puts-then}
-use Rattle.node_share.proofs.Rows.{own-row}
-use Rattle.node_share.proofs.Wants.{done-write, effect-own}
+use Rattle.node_share.proofs.Public.{Puts, done-write, effect-own, own-row, puts-once, puts-read, puts-then}
 use Rattle.eager_home.proofs.Written.{IsDrainingWrite}
 
 module _ {D : Type 0} (home : HomeView D) (node : ℕ) (op : Op) (proc : ProcView) (cache : CacheView) (out : SendList) (number : home.node ≡ node) (program : IsProgramOf home.sizes node proc.program) (next : slice_get proc.program proc.place ≡ Some op) where

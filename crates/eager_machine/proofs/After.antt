@@ -12,7 +12,7 @@ use Rattle.op_model.specs.Events.Step.{Programs, to_lane}
 use Rattle.op_model.specs.Programs.{programs_of}
 use Rattle.event_tally.specs.Marks.{naks_in, marks_of, marked_up}
 use Rattle.event_tally.specs.Tallies.{tally_of}
-use Rattle.event_tally.proofs.Tallies.{tally_of-push, tally_of-few}
+use Rattle.event_tally.proofs.Public.{tally_of-few, tally_of-push}
 use Rattle.machine.specs.Acts.{off_of}
 use Rattle.eager_model.specs.Ages.{sent_age}
 use Rattle.eager_model.specs.Runs.{AgedEntry, Past, past_after, run_by, start}

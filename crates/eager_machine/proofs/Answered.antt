@@ -16,9 +16,9 @@ use Rattle.magic_node.specs.declared.acts.LocalEvent.{LocalEvent}
 use Rattle.magic_node.specs.Nodes.{FitsEvent, HasSent}
 use Rattle.machine.specs.Acts.{FillsLine}
 use Rattle.machine.specs.Kept.{no_sends}
-use Rattle.machine.proofs.Doing.{done-some, served-fills}
+use Rattle.machine.proofs.Public.{done-some, served-fills}
 use Rattle.eager_part.specs.Part.{IsEagerPart}
-use Rattle.eager_part.proofs.Sends.{eager_sends}
+use Rattle.eager_part.proofs.Public.{eager_sends}
 use Rattle.eager_home.specs.Aged.{AgedActs}
 use Rattle.eager_home.specs.Views.{EagerView, ages_in, RiseWithin}
 use Rattle.eager_home.specs.declared.aging.AgedEffect.{AgedEffect}

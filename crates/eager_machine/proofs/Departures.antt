@@ -3,7 +3,7 @@ use Rattle.std.proofs.Common.{◌≡◌, ℕ, ◌+◌, ◌≤◌, Bool, true, fa
 use Rattle.std.proofs.lemmas.List.{length-map, map_push}
 use Rattle.op_model.specs.Messages.{msg_content}
 use Rattle.op_model.specs.Events.Step.{is_departure, departures}
-use Rattle.msg_words.proofs.Departures.{departures-push, departures-le}
+use Rattle.msg_words.proofs.Public.{departures-le, departures-push}
 use Rattle.eager_machine.specs.declared.queue.AgedMsg.{AgedMsg}
 use Rattle.eager_machine.specs.Lanes.{msg_of}
 

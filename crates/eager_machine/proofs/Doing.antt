@@ -18,7 +18,7 @@ use Rattle.cpu_cache.specs.declared.effects.Effect.{Effect}
 use Rattle.msg_words.specs.SendList.{SendList}
 use Rattle.event_tally.specs.Marks.{take_marks_of}
 use Rattle.machine.specs.Acts.{off_of, entries_after}
-use Rattle.machine.proofs.ServedAfter.{served-after}
+use Rattle.machine.proofs.Public.{served-after}
 use Rattle.eager_model.specs.Node.{Aged, aged, local, put_ages}
 use Rattle.eager_model.specs.Runs.{aged_entries}
 use Rattle.eager_model.specs.Step.{AgedDone, Call, answer, effect}

@@ -11,9 +11,7 @@ use Rattle.op_model.specs.OwnPart.{IsOutstanding}
 use Rattle.op_model.specs.Shares.{Share, Unlinked, is_set_empty, line_share, room_of, want_on}
 use Rattle.eager_model.specs.Node.{local, taking}
 use Rattle.eager_part.specs.Part.{IsEagerPart}
-use Rattle.eager_part.proofs.Acts.{line-of}
-use Rattle.eager_part.proofs.EachAct.{each-act}
-use Rattle.eager_part.proofs.Kept.{evict-kept, message-kept}
+use Rattle.eager_part.proofs.Public.{each-act, evict-kept, line-of, message-kept}
 
 module _ (sizes : Sizes) (node : ℕ) (program : List Op) (share : Share) (part : IsEagerPart sizes node program share) where
   -- an operation that a node waits for on a line is the one at its place

@@ -10,12 +10,10 @@ use Rattle.op_model.specs.declared.operations.Op.{Op}
 use Rattle.op_model.specs.MessageWords.{IsMsgOf}
 use Rattle.op_model.specs.Programs.{programs_of, IsProgramOf}
 use Rattle.node_range.specs.Range.{IsOfMachine}
-use Rattle.machine.proofs.Programs.{trace_by, program-of, of-machine}
-use Rattle.machine.proofs.Laws.{some-words, programs-each}
+use Rattle.machine.proofs.Public.{of-machine, program-of, programs-each, some-words, trace_by}
 use Rattle.eager_model.specs.Runs.{AgedEntry, Past, run, run_by, start}
-use Rattle.eager_part.proofs.LaneRuns.{messages_of_machine}
-use Rattle.eager_history.proofs.Runs.{sound-run}
-use Rattle.eager_history.proofs.Takes.{sound-meets}
+use Rattle.eager_part.proofs.Public.{messages_of_machine}
+use Rattle.eager_history.proofs.Public.{sound-meets, sound-run}
 use Rattle.eager_home.specs.Views.{EagerView}
 use Rattle.eager_machine.specs.Acts.{AreFrontsMet}
 use Rattle.eager_machine.specs.Kept.{past_of, programs_in, AreNodes, IsKept}

@@ -13,7 +13,7 @@ use Rattle.lane_queues.specs.BusyLanes.{marks_of, Remarks}
 use Rattle.lane_queues.specs.FirstBusy.{AnswersFirst, Marks, busy_in, lane_named}
 use Rattle.lane_queues.specs.LaneStates.{same_lane}
 use Rattle.lane_queues.specs.Queues.{lane_count, lane_number}
-use Rattle.lane_queues.proofs.FirstAnswers.{answer_defined}
+use Rattle.lane_queues.proofs.Public.{answer_defined}
 use Rattle.machine_face.specs.Reads.{IsLane}
 use Rattle.eager_machine.specs.declared.queue.AgedMsg.{AgedMsg}
 use Rattle.eager_machine.specs.Lanes.{AgedQueues, UnderWay, lane_in, messages_of, msg_of, with_lane, IsBetween, IsSilent}

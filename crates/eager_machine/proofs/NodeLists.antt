@@ -12,7 +12,8 @@ use Rattle.op_model.specs.Programs.{programs_of}
 use Rattle.op_model.specs.Shares.{Share}
 use Rattle.eager_model.specs.Node.{NodeAges, aged, local, meets_row}
 use Rattle.eager_home.specs.Views.{EagerView, ages_in}
-use Rattle.machine.proofs.Faces.{slice_get-read, slice_get-mapped, slice_get-set_at, slice_get-set_other, map-set_same}
+use Rattle.machine.proofs.Public.{map-set_same, slice_get-mapped, slice_get-read, slice_get-set_at}
+use Rattle.machine.proofs.Public.{slice_get-set_other}
 use Rattle.eager_machine.specs.Kept.{share_or, share_in, ages_or, node_ages, programs_in, IsNodeAt, AreNodes, AreYoung}
 use Rattle.eager_home.specs.Aged.{AreWithin}
 

@@ -10,19 +10,16 @@ use Rattle.op_model.specs.Run.Rest.{IsAtRest}
 use Rattle.op_model.specs.Run.Runs as delayed
 use Rattle.op_model.specs.Shares.{Trace, Unlinked, program}
 use Rattle.node_range.specs.Range.{IsOfMachine}
-use Rattle.node_range.proofs.Traces.{order-programs, trace-in}
+use Rattle.node_range.proofs.Public.{order-programs, trace-in}
 use Rattle.schedule_laws.specs.Ends.{IsInOrder}
 use Rattle.machine.specs.Driven.{run_made}
 use Rattle.machine.specs.Machines.{MachineView}
-use Rattle.machine.proofs.Drives.{made-running}
-use Rattle.machine.proofs.Laws.{some-words}
-use Rattle.machine.proofs.Programs.{program-of}
+use Rattle.machine.proofs.Public.{made-running, program-of, some-words}
 use Rattle.schedule.specs.Chosen.{AreOpsIn}
-use Rattle.schedule.proofs.Serials.{indexed, order-ops}
+use Rattle.schedule.proofs.Public.{indexed, order-ops}
 use Rattle.eager_model.specs.Runs.{Past, run, run_by, start}
 use Rattle.eager_schedule.specs.Promises.{KeepsPromise}
-use Rattle.eager_schedule.proofs.Promised.{keeps_promise}
-use Rattle.eager_schedule.proofs.Quiet.{resting}
+use Rattle.eager_schedule.proofs.Public.{keeps_promise, resting}
 use Rattle.eager_machine.specs.Machines.{EagerMachineView, run_of, trace_of, IsMachine}
 
 module _ (trace : Trace) (programs : List (List Op)) (are : AreSizes trace.sizes) (of : ArePrograms trace.sizes programs) (ordered : IsOrderOf (programs_of programs) trace.ops) where

@@ -6,7 +6,7 @@ use Rattle.std.proofs.lemmas.List.{get_or_default, get_or-set_same, get_or-set_o
 use Rattle.op_model.specs.declared.events.Class.{Class}
 use Rattle.lane_queues.specs.LaneStates.{same_lane}
 use Rattle.lane_queues.specs.Queues.{lane_number, lane_count}
-use Rattle.lane_queues.proofs.LaneNumbers.{lane_number-lt, lane_number-one, same_lane-is}
+use Rattle.lane_queues.proofs.Public.{lane_number-lt, lane_number-one, same_lane-is}
 use Rattle.eager_machine.specs.declared.queue.AgedMsg.{AgedMsg}
 use Rattle.eager_machine.specs.Lanes.{AgedQueues, lane_in, with_lane}
 

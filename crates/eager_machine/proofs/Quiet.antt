@@ -14,10 +14,10 @@ use Rattle.op_model.specs.Tables.Remote as delayed_remote
 use Rattle.op_model.specs.Tables.Home as delayed_home
 use Rattle.op_model.specs.Events.Node.{Input, TakeFrom, NodeOutcome, by_row, map_ok}
 use Rattle.machine.specs.Acts.{IsRead}
-use Rattle.machine.proofs.Services.{is_for, begun-op, evicted, row-quiet, row-undone, row-want}
+use Rattle.machine.proofs.Public.{begun-op, evicted, is_for, row-quiet, row-undone, row-want}
 use Rattle.eager_model.specs.Node.{local, taking}
 use Rattle.eager_model.specs.Rows.{begin_op, write_and_drain, writes_shared, asks_shared, give_and_drain, on_getx, on_inv_ack, meets, row_of, on_message}
-use Rattle.eager_part.proofs.EachAct.{each-act}
+use Rattle.eager_part.proofs.Public.{each-act}
 
 begun : (me home : ℕ) (room : Room) (op : Op) (share : LineShare) (outcome : Outcome) → begin_op me home room op share ≡ Ok outcome → is_for outcome.served ≡ false
 unfolding begin_op

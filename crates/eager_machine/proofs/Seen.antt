@@ -9,16 +9,15 @@ use Rattle.op_model.specs.declared.operations.Op.{Op}
 use Rattle.op_model.specs.Programs.{programs_of, IsProgramOf}
 use Rattle.op_model.specs.Run.History.{Follows, IsNext, entries_by, is_completed}
 use Rattle.op_model.specs.Shares.{program}
-use Rattle.one_history.proofs.Completed as entries
-use Rattle.one_history.proofs.Completed.{by-node}
-use Rattle.machine.proofs.Laws.{some-words}
-use Rattle.machine.proofs.Programs.{trace_by, program-of}
+use Rattle.one_history.proofs.Public as entries
+use Rattle.one_history.proofs.Public.{by-node}
+use Rattle.machine.proofs.Public.{program-of, some-words, trace_by}
 use Rattle.eager_model.specs.Runs.{AgedEntry, start}
 use Rattle.eager_history.specs.Project.{plain}
-use Rattle.eager_history.proofs.Runs.{sound-run}
+use Rattle.eager_history.proofs.Public.{sound-run}
 use Rattle.eager_report.specs.declared.aged.AgedEntry.{AgedEntry as Kept}
 use Rattle.eager_report.specs.Reports.{completed_of}
-use Rattle.eager_report.proofs.Orders.{filter-kept}
+use Rattle.eager_report.proofs.Public.{filter-kept}
 use Rattle.eager_home.specs.Views.{EagerView}
 use Rattle.eager_machine.specs.Journals.{served_in}
 use Rattle.eager_machine.specs.Kept.{past_of, programs_in, state_of, AreNodes, IsKept}

@@ -10,16 +10,14 @@ use Rattle.op_model.specs.declared.operations.Op.{Op}
 use Rattle.op_model.specs.Programs.{ArePrograms, IsOrderOf, programs_of}
 use Rattle.op_model.specs.Run.Schedules.{current, first_busy, lane_or_next, serial_next}
 use Rattle.op_model.specs.Shares.{State, Trace, Unlinked, program}
-use Rattle.node_range.proofs.Traces.{trace_in}
+use Rattle.node_range.proofs.Public.{trace_in}
 use Rattle.schedule.specs.Chosen.{AreCompletedTo, AreOpsIn}
 use Rattle.eager_model.specs.Laws.{IsSerial}
 use Rattle.eager_model.specs.Runs.{Past, past_after, run, run_by, start}
 use Rattle.eager_model.specs.Step.{AgedDone, effect}
 use Rattle.eager_schedule.specs.Courses.{SerialEnd}
 use Rattle.eager_schedule.specs.Promises.{KeepsPromise}
-use Rattle.eager_schedule.proofs.Places.{places-rise}
-use Rattle.eager_schedule.proofs.Runs.{ran-first, run-rest}
-use Rattle.eager_schedule.proofs.Serials.{serial-each, serial-ends}
+use Rattle.eager_schedule.proofs.Public.{places-rise, ran-first, run-rest, serial-each, serial-ends}
 use Rattle.eager_machine.specs.Machines.{EagerMachineView, run_of, IsEnabled, IsMachine, IsNext}
 use Rattle.eager_machine.specs.Schedules.{HasBegunSerial, IsSerialWhole, most_for_one, next_with}
 use Rattle.eager_machine.proofs.Promised.{in-machine, in-order, keeps-traced, ops-in, run-traced, same-programs}

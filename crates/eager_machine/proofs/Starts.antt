@@ -22,10 +22,9 @@ use Rattle.eager_machine.specs.Journals.{served_in}
 use Rattle.eager_machine.specs.Outboxes.{under_way}
 use Rattle.eager_machine.specs.Runs.{IsRunKept}
 use Rattle.event_tally.specs.Tallies.{tally_of}
-use Rattle.event_tally.proofs.Tallies.{tally_of-nil}
+use Rattle.event_tally.proofs.Public.{tally_of-nil}
 use Rattle.machine.specs.Kept.{no_sends}
-use Rattle.machine.proofs.Sendings.{sent_by-nil}
-use Rattle.machine.proofs.Starts.{slice_get-push_below, slice_get-middle, below_or_at}
+use Rattle.machine.proofs.Public.{below_or_at, sent_by-nil, slice_get-middle, slice_get-push_below}
 use Rattle.message_range.specs.Fitting.{IsSentOf}
 use Rattle.msg_words.specs.SendList.{SendList}
 use Rattle.std.proofs.lemmas.Bool.Decides.{nat_tests}

@@ -15,7 +15,7 @@ use Rattle.eager_model.specs.Step.{Call, and_answer, answer, effect, front}
 use Rattle.eager_home.specs.Views.{EagerView}
 use Rattle.eager_home.specs.declared.aging.AgedEffect.{AgedEffect}
 use Rattle.event_tally.specs.Marks.{take_marks_of, is_marked_put}
-use Rattle.machine.proofs.Lists.{rest_of, front-is}
+use Rattle.machine.proofs.Public.{front-is, rest_of}
 use Rattle.eager_machine.specs.declared.acts.Act.{Act}
 use Rattle.eager_machine.specs.declared.queue.AgedMsg.{AgedMsg}
 use Rattle.eager_machine.specs.Acts.{AreSent, IsAct, IsDoneAt, IsNoted, IsRefusedAt, IsRefusedIn}

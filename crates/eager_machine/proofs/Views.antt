@@ -13,11 +13,10 @@ use Rattle.op_model.specs.Run.Rest.{IsAtRest}
 use Rattle.op_model.specs.Run.Schedules.{first_busy, first_busy_in}
 use Rattle.op_model.specs.Run.Weight.{weight}
 use Rattle.machine_face.specs.Reads.{IsLane}
-use Rattle.machine.proofs.Laws.{some-words}
-use Rattle.machine.proofs.Programs.{program-of}
+use Rattle.machine.proofs.Public.{program-of, some-words}
 use Rattle.eager_model.specs.Runs.{AgedEntry, Past, run_by, start}
 use Rattle.eager_model.specs.Step.{AgedDone, effect, without_ages}
-use Rattle.eager_rest.proofs.Falls.{falling_weight}
+use Rattle.eager_rest.proofs.Public.{falling_weight}
 use Rattle.eager_home.specs.Views.{EagerView}
 use Rattle.eager_machine.specs.Kept.{past_of, programs_in, share_or, IsKept}
 use Rattle.eager_machine.specs.Lanes.{AgedQueues, UnderWay, IsSilent, lane_in, messages_of, msg_of}

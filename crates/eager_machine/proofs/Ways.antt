@@ -9,9 +9,8 @@ use Rattle.op_model.specs.declared.events.Event.TheVariants.{Take}
 use Rattle.op_model.specs.declared.messages.Msg.{Msg}
 use Rattle.op_model.specs.Messages.{same_class, msg_class, msg_content}
 use Rattle.op_model.specs.Events.Step.{to_lane}
-use Rattle.op_model.proofs.Plain.{eqb-swap}
-use Rattle.op_model.proofs.Shares.{same_class-is, same_class-self}
-use Rattle.machine.proofs.Sendings.{sent_by-nil}
+use Rattle.op_model.proofs.Public.{eqb-swap, same_class-is, same_class-self}
+use Rattle.machine.proofs.Public.{sent_by-nil}
 use Rattle.eager_model.specs.Ages.{sent_age}
 use Rattle.eager_machine.specs.declared.queue.AgedMsg.{AgedMsg}
 use Rattle.eager_machine.specs.Lanes.{UnderWay, with_lane, with_age, msg_of, age_of, sent_from, taken_off, IsSilent}

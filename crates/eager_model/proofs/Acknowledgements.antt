@@ -8,12 +8,10 @@ use Rattle.op_model.specs.Messages.{Content, InvAck}
 use Rattle.op_model.specs.Lines.{Copy, Header}
 use Rattle.op_model.specs.Events.Step.{put_at}
 use Rattle.line_invariant.specs.Good.{Status, Resting, Duty, NoDuty, Acked, Phase, Clean, MayShare, Recalled, Bare, Holds, Waiting, IsGood, IsGoodNode, IsGoodHeader, IsGoodHome, IsHomeCarrier, IsOnDuty, role_in, asked_role, answer_part, is_put}
-use Rattle.op_model.proofs.Plain.{eqb-self}
+use Rattle.op_model.proofs.Public.{eqb-self}
 use Rattle.std.proofs.lemmas.Bool.{ne_eqb}
-use Rattle.line_invariant.proofs.Fronts.{ack-first}
-use Rattle.line_invariant.proofs.HomeLanes.{lanes-ack, lanes-all-quiet, all_in}
-use Rattle.line_invariant.proofs.HomeNodes.{node-acked}
-use Rattle.line_invariant.proofs.Marks.{keep, at-one}
+use Rattle.line_invariant.proofs.Public.{ack-first, all_in, at-one, keep, lanes-ack, lanes-all-quiet}
+use Rattle.line_invariant.proofs.Public.{node-acked}
 use Rattle.eager_model.specs.Line.{AgedLine}
 use Rattle.eager_model.specs.Good.{IsDraining, IsSettled, has_words, draining_role}
 use Rattle.eager_model.proofs.Quiet.{quiet_row, quiet-top, quiet-node, quiet-ages}

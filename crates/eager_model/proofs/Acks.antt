@@ -8,10 +8,8 @@ use Rattle.op_model.specs.Tables.Remote.{is_invalidate}
 use Rattle.op_model.specs.Tables.Remote as delayed
 use Rattle.line_invariant.specs.Line.{share_of, taken}
 use Rattle.line_invariant.specs.Good.{Called, IsGoodHeader}
-use Rattle.line_invariant.proofs.AckRows.{called-phase}
-use Rattle.op_model.proofs.Plain.{eqb-self}
-use Rattle.line_invariant.proofs.Basics.{if-either}
-use Rattle.line_invariant.proofs.Fronts.{ack-comes}
+use Rattle.line_invariant.proofs.Public.{ack-comes, called-phase, if-either}
+use Rattle.op_model.proofs.Public.{eqb-self}
 use Rattle.eager_model.specs.Rows.{Drain, on_inv_ack, on_message, row_of, meets}
 use Rattle.eager_model.specs.Ages.{with_copy}
 use Rattle.eager_model.specs.Line.{AgedLine, ages_of, aged_row, after_take, taken_age}

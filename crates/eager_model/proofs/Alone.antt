@@ -6,7 +6,7 @@ use Rattle.eager_model.specs.Types.{Want}
 use Rattle.op_model.specs.Nodes.{listed}
 use Rattle.op_model.specs.Operations.{Words}
 use Rattle.op_model.specs.Lines.{Copy, is_empty, is_exclusive}
-use Rattle.op_model.proofs.Plain.{eqb-self}
+use Rattle.op_model.proofs.Public.{eqb-self}
 use Rattle.line_invariant.specs.Good.{Status, AskingX, NotLeaving, NoDuty, ToGive, Clean, HomeOwns, Asked, MayShare, Bare, Holds, Waiting, Usual, ByForward, IsGood, IsGoodNode, IsGoodHome, IsGoodHeader, IsAskedBy, is_put, is_write_answer, is_write_back}
 use Rattle.eager_model.specs.Line.{AgedLine}
 use Rattle.eager_model.specs.Newest.{is_unmarked}

@@ -11,9 +11,8 @@ use Rattle.op_model.specs.Tables.Processor as delayed_processor
 use Rattle.op_model.specs.Tables.Remote as delayed
 use Rattle.op_model.specs.Events.Node.{map_ok}
 use Rattle.line_invariant.specs.Rows.{wanting, IsPut, IsWantKept, EndsRight}
-use Rattle.line_invariant.proofs.Basics.{if-either}
-use Rattle.line_invariant.proofs.Wants.{keeps-want, done-right}
-use Rattle.line_invariant.proofs.Away.{same-alone, stays-empty, stays-still}
+use Rattle.line_invariant.proofs.Public.{done-right, if-either, keeps-want, same-alone, stays-empty}
+use Rattle.line_invariant.proofs.Public.{stays-still}
 use Rattle.eager_model.specs.Rows.{asks_shared, begin_op, write_and_drain, writes_shared, give_and_drain, on_getx, on_inv_ack, meets, row_of, on_message}
 
 same-want : (want : Option Want) → IsWantKept want want

@@ -7,11 +7,8 @@ use Rattle.op_model.specs.Operations.{Words}
 use Rattle.op_model.specs.Messages.{Content, InvAck}
 use Rattle.op_model.specs.Lines.{Absent}
 use Rattle.line_invariant.specs.Good.{Acked, NoDuty, Clean, HomeOwns, Owned, Bare, Holds, Usual, IsGoodNode, asked_role}
-use Rattle.line_invariant.proofs.Basics.{alone}
+use Rattle.line_invariant.proofs.Public.{all_in, alone, bare-any, node-all-in, node-may-share}
 use Rattle.std.proofs.lemmas.Bool.{ne_eqb}
-use Rattle.line_invariant.proofs.HomeLanes.{all_in}
-use Rattle.line_invariant.proofs.HomeNodes.{node-all-in, node-may-share}
-use Rattle.line_invariant.proofs.LocalNodes.{bare-any}
 use Rattle.eager_model.specs.Rows.{drained_list}
 use Rattle.eager_model.specs.Line.{AgedLine}
 use Rattle.eager_model.specs.Good.{IsDraining, IsSettled, has_words}

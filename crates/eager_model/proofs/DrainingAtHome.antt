@@ -10,10 +10,7 @@ use Rattle.op_model.specs.Lines.{Absent, Copy, Header, Room, no_message, one_to,
 use Rattle.op_model.specs.Tables.Home.{refuse, on_wb}
 use Rattle.line_invariant.specs.Line.{share_of}
 use Rattle.line_invariant.specs.Good.{Status, Asking, AskingX, Answered, NotLeaving, WritesBack, NoDuty, Bare, Holds, Usual, Role, IsGoodNode, holds_in, is_put, asking_part}
-use Rattle.line_invariant.proofs.Fronts.{wb-first}
-use Rattle.line_invariant.proofs.HomeLanes.{lanes-reply}
-use Rattle.line_invariant.proofs.HomeNodes.{node-refused}
-use Rattle.line_invariant.proofs.LeaveRows.{node-wrote-back}
+use Rattle.line_invariant.proofs.Public.{lanes-reply, node-refused, node-wrote-back, wb-first}
 use Rattle.eager_model.specs.Rows.{meets}
 use Rattle.eager_model.specs.Line.{AgedLine, ages_of, after_take}
 use Rattle.eager_model.specs.Good.{IsEagerGood, IsDraining, has_words, draining_role}

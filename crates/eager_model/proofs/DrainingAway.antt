@@ -11,11 +11,8 @@ use Rattle.op_model.specs.Tables.Remote.{on_inv, on_nak}
 use Rattle.line_invariant.specs.Line.{share_of, taken}
 use Rattle.line_invariant.specs.Good.{Status, Resting, Answered, Acked, Recalled, IsGoodNode, IsAnswerTo, holds_in, is_put}
 use Rattle.line_invariant.specs.Rows.{wanting}
-use Rattle.line_invariant.proofs.RemoteLanes.{lanes-inv, lanes-answer}
-use Rattle.line_invariant.proofs.RemoteNodes.{node-inv, node-put, node-nak}
-use Rattle.line_invariant.proofs.RemoteRows.{answered}
-use Rattle.line_invariant.proofs.LocalNodes.{node-putx}
-use Rattle.line_invariant.proofs.Marks.{keep, done}
+use Rattle.line_invariant.proofs.Public.{answered, done, keep, lanes-answer, lanes-inv, node-inv, node-nak}
+use Rattle.line_invariant.proofs.Public.{node-put, node-putx}
 use Rattle.eager_model.specs.Rows.{meets, on_message}
 use Rattle.eager_model.specs.Ages.{LineAges, with_copy}
 use Rattle.eager_model.specs.Line.{AgedLine, ages_of, after_take, taken_age}

@@ -9,14 +9,11 @@ use Rattle.op_model.specs.Lines.{Copy, Room, Outcome, NoService, sending, one_to
 use Rattle.op_model.specs.Tables.Processor.{serves, ask, begin_at_home, fits, evict, leave_remote, leave_home}
 use Rattle.op_model.specs.Tables.Processor as delayed
 use Rattle.op_model.specs.Events.Node.{map_ok}
-use Rattle.op_model.proofs.Plain.{err-ok}
+use Rattle.op_model.proofs.Public.{err-ok}
 use Rattle.line_invariant.specs.Line.{share_of}
 use Rattle.line_invariant.specs.Good.{Status, Resting, Asking, AskingX, is_put}
 use Rattle.line_invariant.specs.Rows.{IsOwnWant, EndsRight}
-use Rattle.line_invariant.proofs.Basics.{if-either}
-use Rattle.line_invariant.proofs.RemoteLanes.{lanes-ask}
-use Rattle.line_invariant.proofs.LocalNodes.{node-ask}
-use Rattle.line_invariant.proofs.Marks.{keep, asks}
+use Rattle.line_invariant.proofs.Public.{asks, if-either, keep, lanes-ask, node-ask}
 use Rattle.eager_model.specs.Rows.{begin_op, write_and_drain, writes_shared}
 use Rattle.eager_model.specs.Ages.{with_copy, ages_begun}
 use Rattle.eager_model.specs.Line.{AgedLine, ages_of, aged_row}

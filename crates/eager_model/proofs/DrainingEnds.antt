@@ -10,8 +10,7 @@ use Rattle.op_model.specs.Tables.Remote.{on_inv, on_nak}
 use Rattle.line_invariant.specs.Line.{share_of}
 use Rattle.line_invariant.specs.Good.{Carrier, Resting, IsCarried, is_put}
 use Rattle.line_invariant.specs.Rows.{wanting, IsWantKept, EndsRight}
-use Rattle.line_invariant.proofs.Basics.{if-either}
-use Rattle.line_invariant.proofs.RemoteRows.{answered}
+use Rattle.line_invariant.proofs.Public.{answered, if-either}
 use Rattle.eager_model.specs.Rows.{on_inv_ack, on_message}
 use Rattle.eager_model.specs.Line.{AgedLine, row_taken}
 use Rattle.eager_model.specs.Good.{IsDraining, message_age}

@@ -4,7 +4,7 @@ use Rattle.std.proofs.lemmas.Bool.{ne_eqb}
 use Rattle.std.proofs.lemmas.Bool.Decides.{nat_tests}
 use Rattle.eager_model.specs.Types.{Request, Reply}
 use Rattle.op_model.specs.Messages.{Content, Get, GetX, Inv, InvAck}
-use Rattle.op_model.proofs.Plain.{eqb-self}
+use Rattle.op_model.proofs.Public.{eqb-self}
 use Rattle.line_invariant.specs.Good.{Carrier, Asking, AskingX, Answered, Leaving, NotLeaving, Duty, NoDuty, Told, Acked, IsOnDuty, asked_role, Recalled, leaving_part, asking_part, told_part, reply_part, answer_part}
 use Rattle.eager_model.specs.Line.{AgedLine}
 use Rattle.eager_model.specs.Good.{IsDraining, draining_role}

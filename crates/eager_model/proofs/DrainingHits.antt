@@ -8,9 +8,8 @@ use Rattle.op_model.specs.Lines.{Copy, Absent, Shared, Exclusive, Outcome, Own, 
 use Rattle.op_model.specs.Tables.Processor.{serves, hit, done_on}
 use Rattle.line_invariant.specs.Line.{share_of}
 use Rattle.line_invariant.specs.Good.{Status, Carrier, Resting, Role, IsGoodNode, IsCarried, holds_in, is_put}
-use Rattle.line_invariant.proofs.HomeLanes.{lanes-quiet, lanes-same}
-use Rattle.line_invariant.proofs.LocalNodes.{after-load, node-writes, done-load, serving-rests}
-use Rattle.line_invariant.proofs.Marks.{done, rests}
+use Rattle.line_invariant.proofs.Public.{after-load, done, done-load, lanes-quiet, lanes-same, node-writes}
+use Rattle.line_invariant.proofs.Public.{rests, serving-rests}
 use Rattle.eager_model.specs.Ages.{LineAges, with_copy}
 use Rattle.eager_model.specs.Line.{AgedLine, ages_of, aged_row}
 use Rattle.eager_model.specs.Good.{IsEagerGood, IsDraining, IsHomeCopy, has_words, draining_role}

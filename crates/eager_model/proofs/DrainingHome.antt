@@ -5,7 +5,7 @@ use Rattle.op_model.specs.Nodes.{listed}
 use Rattle.op_model.specs.Lines.{Outcome, Header, is_empty}
 use Rattle.line_invariant.specs.Line.{Lanes, words_after, answered_after, sent}
 use Rattle.line_invariant.specs.Good.{Status, Clean, IsGoodNode, IsGoodHome, is_put, expected}
-use Rattle.op_model.proofs.Plain.{eqb-self}
+use Rattle.op_model.proofs.Public.{eqb-self}
 use Rattle.std.proofs.lemmas.Bool.{ne_eqb}
 use Rattle.eager_model.specs.Ages.{LineAges}
 use Rattle.eager_model.specs.Line.{AgedLine}

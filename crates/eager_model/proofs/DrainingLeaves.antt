@@ -8,15 +8,11 @@ use Rattle.op_model.specs.Nodes.{listed}
 use Rattle.op_model.specs.Messages.{Content, Wb, Rpl}
 use Rattle.op_model.specs.Lines.{Copy, Absent, Shared, Exclusive, LineShare, Outcome, NoService, sending, no_message, one_to, is_empty, is_exclusive, words_of}
 use Rattle.op_model.specs.Tables.Processor.{fits, evict, leave_remote, leave_home}
-use Rattle.op_model.proofs.Plain.{err-ok, eqb-self}
+use Rattle.op_model.proofs.Public.{eqb-self, err-ok}
 use Rattle.line_invariant.specs.Line.{share_of, addressed}
 use Rattle.line_invariant.specs.Good.{Resting, Leaving, NotLeaving, WritesBack, Hints, IsGoodNode, leaving_part}
 use Rattle.eager_model.specs.Types.{Request, Reply}
-use Rattle.line_invariant.proofs.Basics.{if-either}
-use Rattle.line_invariant.proofs.RemoteLanes.{lanes-leave}
-use Rattle.line_invariant.proofs.HomeLanes.{lanes-quiet}
-use Rattle.line_invariant.proofs.LocalNodes.{node-leave, leaving_by}
-use Rattle.line_invariant.proofs.Marks.{keep}
+use Rattle.line_invariant.proofs.Public.{if-either, keep, lanes-leave, lanes-quiet, leaving_by, node-leave}
 use Rattle.eager_model.specs.Ages.{LineAges, with_copy, ages_left}
 use Rattle.eager_model.specs.Line.{AgedLine, ages_of, aged_row}
 use Rattle.eager_model.specs.Good.{IsEagerGood, IsDraining, draining_role}

@@ -10,7 +10,7 @@ use Rattle.op_model.specs.Tables.Home.{refuse, on_get, on_wb}
 use Rattle.op_model.specs.Tables.Home as delayed_home
 use Rattle.op_model.specs.Tables.Remote.{on_inv, on_nak, on_put, on_putx}
 use Rattle.op_model.specs.Tables.Remote as delayed
-use Rattle.op_model.proofs.Plain.{eqb-self}
+use Rattle.op_model.proofs.Public.{eqb-self}
 use Rattle.std.specs.Prelude.{None}
 use Rattle.line_invariant.specs.Line.{share_of, taken}
 use Rattle.line_invariant.specs.Rows.{wanting}

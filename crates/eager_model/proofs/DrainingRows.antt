@@ -8,7 +8,7 @@ use Rattle.op_model.specs.Lines.{Copy, Outcome, Header, Service, NoService, Own,
 use Rattle.op_model.specs.Events.Step.{put_at}
 use Rattle.line_invariant.specs.Line.{Lanes, words_after, answered_after, sent}
 use Rattle.line_invariant.specs.Good.{Status, IsGoodNode, is_put, expected}
-use Rattle.op_model.proofs.Plain.{eqb-self}
+use Rattle.op_model.proofs.Public.{eqb-self}
 use Rattle.std.proofs.lemmas.Bool.{ne_eqb}
 use Rattle.eager_model.specs.Ages.{LineAges, served_age}
 use Rattle.eager_model.specs.Line.{AgedLine, last_after}

@@ -8,8 +8,7 @@ use Rattle.op_model.specs.Tables.Home.{on_wb}
 use Rattle.op_model.specs.Tables.Remote.{on_inv, on_nak}
 use Rattle.line_invariant.specs.Line.{share_of, taken}
 use Rattle.line_invariant.specs.Rows.{IsServedFor}
-use Rattle.line_invariant.proofs.Basics.{if-either}
-use Rattle.line_invariant.proofs.RemoteRows.{answered}
+use Rattle.line_invariant.proofs.Public.{answered, if-either}
 use Rattle.eager_model.specs.Rows.{meets, on_inv_ack, on_message}
 use Rattle.eager_model.specs.Ages.{LineAges, ages_taken, with_copy}
 use Rattle.eager_model.specs.Line.{AgedLine, ages_of, aged_row, after_take, row_taken, ages_after_take, taken_age}

@@ -9,7 +9,7 @@ use Rattle.op_model.specs.Events.Step.{put_at}
 use Rattle.line_invariant.specs.Line.{share_of, taken, sent}
 use Rattle.line_invariant.specs.Good.{Status, IsGoodNode, is_put, expected}
 use Rattle.std.proofs.lemmas.Bool.{ne_eqb}
-use Rattle.line_invariant.proofs.Marks.{keep}
+use Rattle.line_invariant.proofs.Public.{keep}
 use Rattle.eager_model.specs.Ages.{LineAges}
 use Rattle.eager_model.specs.Line.{AgedLine, taken_age}
 use Rattle.eager_model.specs.Good.{IsEagerGood, IsDraining, IsDrainingHeader, IsAgeIn, has_words, draining_role}

@@ -8,7 +8,7 @@ use Rattle.op_model.specs.Messages.{Content, Get, GetX, FwdGet, FwdGetX, Inv, Wb
 use Rattle.op_model.specs.Lines.{Room, is_empty}
 use Rattle.line_invariant.specs.Line.{share_of}
 use Rattle.line_invariant.specs.Good.{Carrier, Resting, Asking, AskingX, Granted, Forwarded, Answered, Leaving, NotLeaving, WritesBack, Hints, IsAnswerTo, leaving_part, asking_part}
-use Rattle.line_invariant.proofs.RemoteRows.{answered}
+use Rattle.line_invariant.proofs.Public.{answered}
 use Rattle.eager_model.specs.Rows.{meets}
 use Rattle.eager_model.specs.Line.{AgedLine, after_take}
 use Rattle.eager_model.specs.Good.{IsEagerGood, IsDraining, message_age}

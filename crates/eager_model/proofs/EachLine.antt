@@ -8,7 +8,7 @@ use Rattle.op_model.specs.Lines.{Absent, Room, Service, NoService, Outcome, is_e
 use Rattle.op_model.specs.Tables.Processor.{serves, evict}
 use Rattle.line_invariant.specs.Line.{share_of}
 use Rattle.line_invariant.specs.Rows.{wanting, IsServedFor, IsOwnServed, IsOwnWant, EndsRight}
-use Rattle.line_invariant.proofs.Served as delayed
+use Rattle.line_invariant.proofs.Public as delayed
 use Rattle.eager_model.specs.Rows.{begin_op, meets}
 use Rattle.eager_model.specs.Line.{AgedLine, after_take, row_taken}
 use Rattle.eager_model.specs.Processor.{hit_row, ages_after_hit, after_hit, ages_after_begin, after_begin, after_leave}

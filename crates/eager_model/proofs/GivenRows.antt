@@ -11,8 +11,7 @@ use Rattle.op_model.specs.Tables.Home.{on_getx, give_home_copy, give_memory, for
 use Rattle.op_model.specs.Tables.Remote.{on_fwd_getx, is_invalidate}
 use Rattle.line_invariant.specs.Line.{share_of}
 use Rattle.line_invariant.specs.Good.{AskingX}
-use Rattle.line_invariant.proofs.Basics.{if-either}
-use Rattle.line_invariant.proofs.HomeRows.{clean-phase, home-phase}
+use Rattle.line_invariant.proofs.Public.{clean-phase, home-phase, if-either}
 use Rattle.eager_model.specs.Rows.{asks_shared}
 use Rattle.eager_model.specs.Ages.{age_given, with_copy}
 use Rattle.eager_model.specs.Line.{AgedLine, ages_of, greater, begun_age}

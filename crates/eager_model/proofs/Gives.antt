@@ -6,7 +6,7 @@ use Rattle.op_model.specs.Lines.{Header, LineShare, Room, Outcome, is_pending, i
 use Rattle.op_model.specs.Tables.Home.{no_other}
 use Rattle.op_model.specs.Tables.Remote as delayed
 use Rattle.line_invariant.specs.Line.{share_of, taken}
-use Rattle.op_model.proofs.Plain.{eqb-self}
+use Rattle.op_model.proofs.Public.{eqb-self}
 use Rattle.std.proofs.lemmas.Bool.{ne_eqb}
 use Rattle.eager_model.specs.Rows.{asks_shared, give_and_drain, on_getx, on_message, row_of, meets}
 use Rattle.eager_model.specs.Ages.{with_copy}

@@ -10,8 +10,8 @@ use Rattle.op_model.specs.Tables.Remote as delayed
 use Rattle.op_model.specs.Events.Step.{put_at}
 use Rattle.line_invariant.specs.Line.{Lanes, share_of, sent, taken}
 use Rattle.line_invariant.specs.Good.{Status, Hints, NotLeaving, Role, IsGoodNode, asking_part, expected}
-use Rattle.op_model.proofs.Plain.{eqb-self}
-use Rattle.line_invariant.proofs.Fronts.{rpl-first}
+use Rattle.op_model.proofs.Public.{eqb-self}
+use Rattle.line_invariant.proofs.Public.{rpl-first}
 use Rattle.eager_model.specs.Rows.{Drain, meets, row_of, on_message}
 use Rattle.eager_model.specs.Line.{AgedLine, ages_of, after_take}
 use Rattle.eager_model.specs.Good.{IsEagerGood, IsDraining, has_words, draining_role}

@@ -7,12 +7,9 @@ use Rattle.op_model.specs.Operations.{Words, after_op}
 use Rattle.op_model.specs.Lines.{Exclusive, is_empty, is_pending, nobody_listed, to_listed}
 use Rattle.line_invariant.specs.Line.{share_of, addressed}
 use Rattle.line_invariant.specs.Good.{Status, NotLeaving, NoDuty, Clean, MayShare, Recalled, Role, IsGoodNode, IsGoodHeader, IsGoodHome, IsCarried, role_in, is_put, is_write_answer}
-use Rattle.op_model.proofs.Plain.{eqb-self}
+use Rattle.op_model.proofs.Public.{eqb-self}
 use Rattle.std.proofs.lemmas.Bool.{ne_eqb}
-use Rattle.line_invariant.proofs.HomeLanes.{lanes-call, all_told}
-use Rattle.line_invariant.proofs.HomeNodes.{node-called}
-use Rattle.line_invariant.proofs.HomeRows.{clean-phase, home-rests}
-use Rattle.line_invariant.proofs.Marks.{rests}
+use Rattle.line_invariant.proofs.Public.{all_told, clean-phase, home-rests, lanes-call, node-called, rests}
 use Rattle.eager_model.specs.Rows.{write_and_drain}
 use Rattle.eager_model.specs.Ages.{with_copy, ages_begun, sent_age, age_given}
 use Rattle.eager_model.specs.Line.{AgedLine, ages_of, aged_row}

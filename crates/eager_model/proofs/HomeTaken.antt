@@ -10,10 +10,10 @@ use Rattle.op_model.specs.Messages.{Content, Get, FwdGet, Wb, Rpl, Put, Nak, ShW
 use Rattle.op_model.specs.Lines.{Header, Room, Outcome, sending, no_message, is_empty, is_idle, is_pending, owner, words_of}
 use Rattle.op_model.specs.Tables.Home.{on_get, on_wb, on_rpl, on_shwb, on_fack, on_nakc, refuse, share_home_copy, share_memory, forward_get, lacks_link}
 use Rattle.op_model.specs.Tables.Remote.{is_invalidate}
-use Rattle.op_model.proofs.Plain.{eqb-self}
+use Rattle.op_model.proofs.Public.{eqb-self}
 use Rattle.line_invariant.specs.Line.{share_of}
 use Rattle.line_invariant.specs.Rows.{IsServedFor}
-use Rattle.line_invariant.proofs.Basics.{if-either}
+use Rattle.line_invariant.proofs.Public.{if-either}
 use Rattle.eager_model.specs.Ages.{sent_age, with_copy}
 use Rattle.eager_model.specs.Line.{AgedLine, ages_of}
 use Rattle.eager_model.specs.Newest.{newest_age}

@@ -6,7 +6,7 @@ use Rattle.op_model.specs.Operations.{Words}
 use Rattle.op_model.specs.Messages.{Content, Get, GetX, FwdGet, FwdGetX, Inv, Wb, Rpl, Put, PutX, Nak, InvAck, ShWb, FAck, Nakc}
 use Rattle.op_model.specs.Lines.{Copy, Header, is_empty}
 use Rattle.op_model.specs.Tables.Remote.{is_invalidate}
-use Rattle.op_model.proofs.Plain.{eqb-self}
+use Rattle.op_model.proofs.Public.{eqb-self}
 use Rattle.line_invariant.specs.Good.{Status, Carrier, Leaving, NotLeaving, Duty, NoDuty, Role, Holds, Bare, Waiting, Usual, asked_role, Phase, Clean, HomeOwns, Owned, Called, Asked, SharedOut, HandedOn, IsGood, IsGoodHeader, IsCarried, IsLeft, role_in, is_put, is_write_answer, is_write_back}
 use Rattle.eager_model.specs.Line.{AgedLine}
 use Rattle.eager_model.specs.Newest.{AreNewest, newest_age, is_unmarked}

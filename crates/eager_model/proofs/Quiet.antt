@@ -8,7 +8,7 @@ use Rattle.op_model.specs.Messages.{Content}
 use Rattle.op_model.specs.Lines.{Header, sending, no_message, is_empty}
 use Rattle.line_invariant.specs.Line.{share_of, taken}
 use Rattle.line_invariant.specs.Good.{Status, Role, IsGoodNode, is_put}
-use Rattle.op_model.proofs.Plain.{eqb-self}
+use Rattle.op_model.proofs.Public.{eqb-self}
 use Rattle.std.proofs.lemmas.Bool.{ne_eqb}
 use Rattle.eager_model.specs.Ages.{with_copy}
 use Rattle.eager_model.specs.Line.{AgedLine, ages_of, aged_row, greater, taken_age}

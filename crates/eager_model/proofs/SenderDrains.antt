@@ -9,11 +9,9 @@ use Rattle.op_model.specs.Lines.{Absent, is_empty, is_pending, to_listed, to_eac
 use Rattle.op_model.specs.Tables.Home.{no_other}
 use Rattle.line_invariant.specs.Line.{share_of, addressed, taken}
 use Rattle.line_invariant.specs.Good.{Status, Resting, AskingX, Answered, Holds, NotLeaving, NoDuty, Told, Clean, MayShare, Recalled, Role, IsGoodNode, IsGoodHeader, IsGoodHome, IsCarried, role_in, is_put, is_write_answer}
-use Rattle.op_model.proofs.Plain.{eqb-self}
+use Rattle.op_model.proofs.Public.{eqb-self}
 use Rattle.std.proofs.lemmas.Bool.{ne_eqb}
-use Rattle.line_invariant.proofs.Fronts.{getx-comes}
-use Rattle.line_invariant.proofs.HomeRows.{clean-phase, home-rests}
-use Rattle.line_invariant.proofs.Marks.{at-one}
+use Rattle.line_invariant.proofs.Public.{at-one, clean-phase, getx-comes, home-rests}
 use Rattle.eager_model.specs.Rows.{give_and_drain}
 use Rattle.eager_model.specs.Ages.{with_copy, sent_age, age_given}
 use Rattle.eager_model.specs.Line.{AgedLine, ages_of, aged_row, greater, begun_age, taken_age}

@@ -11,14 +11,11 @@ use Rattle.op_model.specs.Tables.Processor.{serves, ask, load_at_home, write_at_
 use Rattle.op_model.specs.Tables.Processor as delayed
 use Rattle.op_model.specs.Tables.Remote.{is_invalidate}
 use Rattle.op_model.specs.Events.Node.{map_ok}
-use Rattle.op_model.proofs.Plain.{err-ok}
+use Rattle.op_model.proofs.Public.{err-ok}
 use Rattle.line_invariant.specs.Line.{share_of}
 use Rattle.line_invariant.specs.Good.{IsGoodHeader, Clean}
 use Rattle.line_invariant.specs.Rows.{IsOwnServed, IsOwnWant, EndsRight}
-use Rattle.line_invariant.proofs.Basics.{if-either}
-use Rattle.line_invariant.proofs.HomeRows.{clean-phase}
-use Rattle.line_invariant.proofs.Locals.{good-begin}
-use Rattle.line_invariant.proofs.Served.{idle-answered}
+use Rattle.line_invariant.proofs.Public.{clean-phase, good-begin, idle-answered, if-either}
 use Rattle.eager_model.specs.Rows.{begin_op, write_and_drain, writes_shared}
 use Rattle.eager_model.specs.Ages.{sent_age, ages_begun, with_copy}
 use Rattle.eager_model.specs.Line.{AgedLine, ages_of, aged_row}

@@ -7,12 +7,11 @@ use Rattle.op_model.specs.Messages.{Content, Wb, Rpl}
 use Rattle.op_model.specs.Lines.{Copy, Absent, Shared, Exclusive, Header, Outcome, Own, sending, no_message, is_empty, is_exclusive, words_of}
 use Rattle.op_model.specs.Tables.Processor.{serves, done_on, hit, fits, evict, leave_home, leave_remote}
 use Rattle.op_model.specs.Tables.Remote.{is_invalidate}
-use Rattle.op_model.proofs.Plain.{err-ok}
+use Rattle.op_model.proofs.Public.{err-ok}
 use Rattle.line_invariant.specs.Line.{share_of, after_row}
 use Rattle.line_invariant.specs.Good.{IsGood}
-use Rattle.line_invariant.proofs.Basics.{if-either}
-use Rattle.line_invariant.proofs.Locals.{good-hit, hit-fresh, good-evict}
-use Rattle.line_invariant.proofs.Served.{idle-answered, wants-empty}
+use Rattle.line_invariant.proofs.Public.{good-evict, good-hit, hit-fresh, idle-answered, if-either}
+use Rattle.line_invariant.proofs.Public.{wants-empty}
 use Rattle.eager_model.specs.Ages.{LineAges, age_given, ages_left, with_copy}
 use Rattle.eager_model.specs.Line.{AgedLine, ages_of, aged_row}
 use Rattle.eager_model.specs.Served.{IsServedAt, age_served}

@@ -9,16 +9,13 @@ use Rattle.op_model.specs.Tables.Home.{no_other}
 use Rattle.op_model.specs.Tables.Home as delayed_home
 use Rattle.op_model.specs.Tables.Remote.{on_fwd_get, is_invalidate, waits_load, waits_write}
 use Rattle.op_model.specs.Tables.Remote as delayed
-use Rattle.op_model.proofs.Plain.{eqb-self}
+use Rattle.op_model.proofs.Public.{eqb-self}
 use Rattle.line_invariant.specs.Line.{share_of}
 use Rattle.line_invariant.specs.Rows.{IsServedFor, IsPut, EndsRight}
 use Rattle.line_invariant.specs.Good.{IsGoodNode, IsGoodHeader, AskingX, Asked, ToGive, asked_role}
-use Rattle.line_invariant.proofs.Basics.{if-either}
-use Rattle.line_invariant.proofs.Fronts.{getx-comes, fwdx-first, request-away, answer-comes, replies-only, reply-home}
-use Rattle.line_invariant.proofs.ForwardNodes.{asked-phase, node-holds}
-use Rattle.line_invariant.proofs.RemoteRows.{answered}
-use Rattle.line_invariant.proofs.MeetsRow.{meets-take}
-use Rattle.line_invariant.proofs.Served.{served-take, put-answered}
+use Rattle.line_invariant.proofs.Public.{answer-comes, answered, asked-phase, fwdx-first, getx-comes}
+use Rattle.line_invariant.proofs.Public.{if-either, meets-take, node-holds, put-answered, replies-only}
+use Rattle.line_invariant.proofs.Public.{reply-home, request-away, served-take}
 use Rattle.eager_model.specs.Rows.{asks_shared, meets, row_of, on_getx, on_message}
 use Rattle.eager_model.specs.Ages.{age_given, served_age}
 use Rattle.eager_model.specs.Line.{AgedLine, ages_of, ages_after_take, row_taken, after_take}

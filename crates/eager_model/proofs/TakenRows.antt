@@ -10,10 +10,9 @@ use Rattle.op_model.specs.Operations.{Words, is_load, after_op}
 use Rattle.op_model.specs.Messages.{Content, Nakc, FwdGet, Inv, Put, PutX, Nak, InvAck, ShWb}
 use Rattle.op_model.specs.Lines.{Copy, Shared, Exclusive, Outcome, NoService, For, no_message, is_empty, is_exclusive, words_of, without_shared, marked_load}
 use Rattle.op_model.specs.Tables.Remote.{on_inv, on_nak, on_put, on_putx, on_fwd_get, gone, is_invalidate, waits_write}
-use Rattle.op_model.proofs.Plain.{eqb-self}
+use Rattle.op_model.proofs.Public.{eqb-self}
 use Rattle.line_invariant.specs.Line.{share_of}
-use Rattle.line_invariant.proofs.Basics.{if-either}
-use Rattle.line_invariant.proofs.Served.{writes-answered, put-answered}
+use Rattle.line_invariant.proofs.Public.{if-either, put-answered, writes-answered}
 use Rattle.eager_model.specs.Ages.{age_given, ages_taken, with_copy}
 use Rattle.eager_model.specs.Line.{AgedLine, ages_of}
 use Rattle.eager_model.specs.Newest.{newest_age, is_unmarked}

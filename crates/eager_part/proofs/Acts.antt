@@ -9,11 +9,10 @@ use Rattle.op_model.specs.Lines.{LineShare, Outcome, Room, is_empty}
 use Rattle.op_model.specs.Messages.{msg_content, msg_line}
 use Rattle.op_model.specs.Shares.{Share, Unlinked, conflicts, copy_of, is_set_empty, line_share, room_of}
 use Rattle.op_model.specs.Tables.Processor.{evict, hit, serves}
-use Rattle.op_model.proofs.Shares.{none-on, serves-copy}
-use Rattle.one_history.proofs.Sets.{none-conflicts}
-use Rattle.lane_bounds.proofs.Allowed.{evict-allowed, hit-allowed}
-use Rattle.own_part.proofs.BegunRows.{begun-row, effect-row, free-row, quiet-row}
-use Rattle.own_part.proofs.ShareRows.{IsPartOf}
+use Rattle.op_model.proofs.Public.{none-on, serves-copy}
+use Rattle.one_history.proofs.Public.{none-conflicts}
+use Rattle.lane_bounds.proofs.Public.{evict-allowed, hit-allowed}
+use Rattle.own_part.proofs.Public.{IsPartOf, begun-row, effect-row, free-row, quiet-row}
 use Rattle.eager_model.specs.Node.{local, taking}
 use Rattle.eager_model.specs.Rows.{begin_op}
 use Rattle.eager_part.specs.Part.{IsEagerPart}

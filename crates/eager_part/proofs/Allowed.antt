@@ -4,7 +4,7 @@ use Rattle.op_model.specs.declared.operations.Op.{Op}
 use Rattle.op_model.specs.Messages.{Content}
 use Rattle.op_model.specs.Lines.{Header, LineShare, Outcome, Room, is_pending}
 use Rattle.op_model.specs.Tables.Home.{no_other}
-use Rattle.lane_bounds.proofs.Allowed.{IsAllowed, begin-allowed, message-allowed}
+use Rattle.lane_bounds.proofs.Public.{IsAllowed, begin-allowed, message-allowed}
 use Rattle.eager_model.specs.Rows.{begin_op, on_message}
 use Rattle.eager_part.proofs.Beginnings.{each-beginning}
 use Rattle.eager_part.proofs.Rows.{called-pends, each-row, shared-parts}

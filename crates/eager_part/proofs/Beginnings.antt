@@ -11,9 +11,9 @@ use Rattle.op_model.specs.Tables.Processor.{ask, begin_at_home, forward_get_home
 use Rattle.op_model.specs.Tables.Processor as delayed
 use Rattle.op_model.specs.Tables.Remote.{is_invalidate}
 use Rattle.op_model.specs.Events.Node.{map_ok}
-use Rattle.op_model.proofs.Plain.{err-ok, three_parts}
-use Rattle.line_invariant.proofs.Basics.{if-either}
-use Rattle.own_part.proofs.Basics.{idle-is}
+use Rattle.op_model.proofs.Public.{err-ok, three_parts}
+use Rattle.line_invariant.proofs.Public.{if-either}
+use Rattle.own_part.proofs.Public.{idle-is}
 use Rattle.eager_model.specs.Rows.{begin_op, write_and_drain, writes_shared}
 
 -- what is known of a beginning at the home: the line was idle, a budget was left for E1, and no other row calls anybody

@@ -17,16 +17,12 @@ use Rattle.op_model.specs.Operations.{Words}
 use Rattle.op_model.specs.Shares.{Lanes, State, Trace, Unlinked, is_set_empty, line_share, pending_lines, program, room_of}
 use Rattle.op_model.specs.Tables.Home.{on_wb}
 use Rattle.op_model.specs.Tables.Processor.{evict, hit}
-use Rattle.line_invariant.proofs.Basics.{if-either}
+use Rattle.line_invariant.proofs.Public.{if-either}
 use Rattle.one_history.specs.Project.{of_line}
-use Rattle.lane_bounds.proofs.Acts.{taken_of}
-use Rattle.lane_bounds.proofs.Allowed.{evict-allowed, hit-allowed}
-use Rattle.lane_bounds.proofs.Effects.{is_gated}
-use Rattle.lane_bounds.proofs.Evictions.{evict-fits}
-use Rattle.lane_bounds.proofs.Kept.{IsBounded, IsMeasured, bounded-row, measured-quiet}
-use Rattle.lane_bounds.proofs.Lanes.{taken-either}
-use Rattle.lane_bounds.proofs.Runs.{bounded-start}
-use Rattle.lane_bounds.proofs.Sends.{Quiet, addressed-none, quiet-begin, quiet-each, quiet-hit, quiet-message}
+use Rattle.lane_bounds.proofs.Public.{IsBounded, IsMeasured, Quiet, addressed-none, bounded-row}
+use Rattle.lane_bounds.proofs.Public.{bounded-start, evict-allowed, evict-fits, hit-allowed, is_gated}
+use Rattle.lane_bounds.proofs.Public.{measured-quiet, quiet-begin, quiet-each, quiet-hit, quiet-message}
+use Rattle.lane_bounds.proofs.Public.{taken-either, taken_of}
 use Rattle.eager_model.specs.Node.{taking}
 use Rattle.eager_model.specs.Rows.{begin_op, on_inv_ack, on_message}
 use Rattle.eager_model.specs.Runs.{Past, past_after, run}

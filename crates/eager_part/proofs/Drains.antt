@@ -10,10 +10,8 @@ use Rattle.op_model.specs.Lines.{Absent, Copy, Exclusive, LineShare, Outcome, Sh
 use Rattle.op_model.specs.OwnPart.{IsOwnLine}
 use Rattle.op_model.specs.Tables.Home.{no_other, on_wb}
 use Rattle.op_model.specs.Tables.Processor.{done_on, hit, leave_home}
-use Rattle.line_invariant.proofs.Basics.{if-either}
-use Rattle.own_part.proofs.Basics.{above-none}
-use Rattle.own_part.proofs.BackRows.{count-only, not-owned}
-use Rattle.own_part.proofs.OwnRows.{done-copy}
+use Rattle.line_invariant.proofs.Public.{if-either}
+use Rattle.own_part.proofs.Public.{above-none, count-only, done-copy, not-owned}
 use Rattle.eager_model.specs.Rows.{Drain, drained_list, give_and_drain, on_inv_ack, write_and_drain}
 use Rattle.eager_part.specs.Part.{IsDrainingLine, IsEagerLine}
 use Rattle.eager_part.proofs.Lines.{IsLine}

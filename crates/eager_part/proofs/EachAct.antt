@@ -12,9 +12,8 @@ use Rattle.op_model.specs.Lines.{LineShare, Outcome}
 use Rattle.op_model.specs.Messages.{msg_line}
 use Rattle.op_model.specs.Shares.{Share, Unlinked, conflicts, copy_of, line_share, room_of}
 use Rattle.op_model.specs.Tables.Processor.{evict, hit, reclaim, serves}
-use Rattle.op_model.proofs.Plain.{err-ok}
-use Rattle.op_model.proofs.Shares.{free-want}
-use Rattle.line_invariant.proofs.Basics.{if-either}
+use Rattle.op_model.proofs.Public.{err-ok, free-want}
+use Rattle.line_invariant.proofs.Public.{if-either}
 use Rattle.eager_model.specs.Node.{issue_next, local, take_from, taking}
 use Rattle.eager_model.specs.Rows.{begin_op}
 

@@ -17,9 +17,8 @@ use Rattle.op_model.specs.Lines.{LineShare, Outcome}
 use Rattle.op_model.specs.Messages.{msg_line}
 use Rattle.op_model.specs.Shares.{Lanes, State, Unlinked, conflicts, copy_of, line_share, put_share, room_of}
 use Rattle.op_model.specs.Tables.Processor.{evict, hit, serves}
-use Rattle.op_model.proofs.Plain.{err-ok}
-use Rattle.lane_bounds.proofs.Acts.{after_row_of, lane-tagged, one-taken, taken_of}
-use Rattle.lane_bounds.proofs.Effects.{is_gated}
+use Rattle.op_model.proofs.Public.{err-ok}
+use Rattle.lane_bounds.proofs.Public.{after_row_of, is_gated, lane-tagged, one-taken, taken_of}
 use Rattle.eager_model.specs.Node.{aged, local, taking}
 use Rattle.eager_model.specs.Rows.{begin_op}
 use Rattle.eager_model.specs.Step.{AgedDone, Ages, and_answer, answer, effect, first_age, front, without_ages}

@@ -8,11 +8,11 @@ use Rattle.op_model.specs.Messages.{Content}
 use Rattle.op_model.specs.Nodes.{Nodes, listed, listings, unlist}
 use Rattle.op_model.specs.Operations.{Words}
 use Rattle.op_model.specs.Tables.Home.{on_wb}
-use Rattle.line_invariant.proofs.Basics.{if-either}
+use Rattle.line_invariant.proofs.Public.{if-either}
 use Rattle.message_range.specs.Fitting.{IsContentForOther}
-use Rattle.message_range.proofs.Rows.{IsFitting, IsWide, IsWideLine, listed-sends, none-few, one-few, op-width}
-use Rattle.message_range.proofs.Sets.{below-others, length-listed}
-use Rattle.message_range.proofs.TakeRows.{begin-fits, message-fits}
+use Rattle.message_range.proofs.Public.{IsFitting, IsWide, IsWideLine, begin-fits, below-others}
+use Rattle.message_range.proofs.Public.{length-listed, listed-sends, message-fits, none-few, one-few}
+use Rattle.message_range.proofs.Public.{op-width}
 use Rattle.eager_model.specs.Rows.{begin_op, give_and_drain, on_inv_ack, on_message, write_and_drain}
 use Rattle.eager_part.proofs.Beginnings.{each-beginning}
 use Rattle.eager_part.proofs.Kept.{calm-own}

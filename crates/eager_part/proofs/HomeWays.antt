@@ -13,15 +13,12 @@ use Rattle.op_model.specs.OwnPart.{IsOwnLine}
 use Rattle.op_model.specs.Tables.Home.{lacks_link, no_other, on_get, on_getx}
 use Rattle.op_model.specs.Tables.Processor.{begin_at_home, serves}
 use Rattle.op_model.specs.Tables.Remote.{asks_well}
-use Rattle.op_model.proofs.Plain.{err-ok, other_fails}
-use Rattle.op_model.proofs.Shares.{in_order-listed, unserved-shared}
-use Rattle.line_invariant.proofs.Basics.{if-either}
+use Rattle.op_model.proofs.Public.{err-ok, in_order-listed, other_fails, unserved-shared}
+use Rattle.line_invariant.proofs.Public.{if-either}
 use Rattle.lane_bounds.specs.Ways.{IsWay}
-use Rattle.own_part.proofs.Basics.{idle-is}
-use Rattle.own_part.proofs.Effects.{idle-exclusive, waits-so}
-use Rattle.own_part.proofs.OwnRows.{not-local}
+use Rattle.own_part.proofs.Public.{idle-exclusive, idle-is, not-local, waits-so}
 use Rattle.message_range.specs.Fitting.{IsContentForOther}
-use Rattle.message_range.proofs.Sets.{owner-listed}
+use Rattle.message_range.proofs.Public.{owner-listed}
 
 abbrev pub IsGoing : (home me : ℕ) → ℕ × Content → Type 0
 IsGoing home me send = IsWay home me send.0 send.1 × IsContentForOther send.0 send.1 × (me ≢ send.0)

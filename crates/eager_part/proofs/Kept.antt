@@ -11,11 +11,10 @@ use Rattle.op_model.specs.OwnPart.{IsOwnLine}
 use Rattle.op_model.specs.Tables.Home.{no_other, on_wb}
 use Rattle.op_model.specs.Tables.Processor.{evict, fits, hit, leave_home, leave_remote}
 use Rattle.op_model.specs.Tables.Remote.{is_invalidate}
-use Rattle.op_model.proofs.Plain.{err-ok}
-use Rattle.line_invariant.proofs.Basics.{if-either}
-use Rattle.own_part.proofs.Effects.{IsEffect, IsQuiet}
-use Rattle.own_part.proofs.OwnRows.{IsBegun, begin-keeps, evict-keeps, hit-keeps, leave-home-quiet}
-use Rattle.own_part.proofs.TakeRows.{message-keeps}
+use Rattle.op_model.proofs.Public.{err-ok}
+use Rattle.line_invariant.proofs.Public.{if-either}
+use Rattle.own_part.proofs.Public.{IsBegun, IsEffect, IsQuiet, begin-keeps, evict-keeps, hit-keeps}
+use Rattle.own_part.proofs.Public.{leave-home-quiet, message-keeps}
 use Rattle.eager_model.specs.Rows.{Drain, asks_shared, begin_op, give_and_drain, on_inv_ack, on_message}
 use Rattle.eager_part.specs.Part.{IsDrainingLine}
 use Rattle.eager_part.proofs.Beginnings.{each-beginning}

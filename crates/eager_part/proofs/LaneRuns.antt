@@ -11,9 +11,7 @@ use Rattle.op_model.specs.MessageWords.{IsMsgOf}
 use Rattle.op_model.specs.Shares.{State, Trace, Unlinked, program}
 use Rattle.node_range.specs.Range.{IsOfMachine}
 use Rattle.message_range.specs.Fitting.{IsInputForOther, IsInputOf, IsShareOf}
-use Rattle.message_range.proofs.Acts.{IsActed}
-use Rattle.message_range.proofs.Events.{filled, program-of}
-use Rattle.message_range.proofs.Runs.{share-first}
+use Rattle.message_range.proofs.Public.{IsActed, filled, program-of, share-first}
 use Rattle.eager_model.specs.Runs.{Past, past_after, run, start}
 use Rattle.eager_model.specs.Step.{AgedDone, effect}
 use Rattle.eager_part.proofs.RangedRuns.{AreRanged, acts-in, ranged-event, ranged-start}

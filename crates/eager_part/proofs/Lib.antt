@@ -21,3 +21,4 @@ pub mod HomeWays
 pub mod Ways
 pub mod WayRuns
 pub mod BoundRuns
+pub mod Public

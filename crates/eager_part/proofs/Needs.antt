@@ -15,10 +15,9 @@ use Rattle.op_model.specs.Shares.{Share, header_in, header_of, is_set_empty, lin
 use Rattle.op_model.specs.Tables.Home.{requester_of}
 use Rattle.op_model.specs.Tables.Remote.{asks_well, gets_elsewhere, getxs_elsewhere, is_forward, is_forward_get, is_forward_getx, is_invalidate, waits_load, waits_write}
 use Rattle.op_model.specs.Tables.Remote as delayed
-use Rattle.op_model.proofs.Plain.{three_parts}
+use Rattle.op_model.proofs.Public.{three_parts}
 use Rattle.node_range.specs.Range.{IsWaitIn}
-use Rattle.own_part.proofs.Basics.{gets, getxs, idle-is}
-use Rattle.own_part.proofs.TakeRows.{at-home}
+use Rattle.own_part.proofs.Public.{at-home, gets, getxs, idle-is}
 use Rattle.message_range.specs.Fitting.{IsShareOf}
 use Rattle.eager_model.specs.Node.{meets_row}
 use Rattle.eager_model.specs.Rows.{Drain, meets}

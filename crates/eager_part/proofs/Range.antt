@@ -10,9 +10,9 @@ use Rattle.op_model.specs.Messages.{Content}
 use Rattle.op_model.specs.Nodes.{Nodes, listed, listings, only, unlist}
 use Rattle.op_model.specs.Operations.{Words}
 use Rattle.op_model.specs.Tables.Home.{on_wb}
-use Rattle.line_invariant.proofs.Basics.{if-either}
+use Rattle.line_invariant.proofs.Public.{if-either}
 use Rattle.node_range.specs.Range.{IsContentIn, IsHeaderIn, IsSentIn, IsWaitIn}
-use Rattle.node_range.proofs.Tables.{begin-in, call-in-in, message-in}
+use Rattle.node_range.proofs.Public.{begin-in, call-in-in, message-in}
 use Rattle.eager_model.specs.Rows.{begin_op, drained_list, on_inv_ack, on_message}
 use Rattle.eager_part.proofs.Beginnings.{each-beginning}
 use Rattle.eager_part.proofs.Rows.{each-row}

@@ -14,15 +14,11 @@ use Rattle.op_model.specs.Messages.{msg_content, msg_line}
 use Rattle.op_model.specs.Nodes.{count, count-none, listed-none}
 use Rattle.op_model.specs.Shares.{State, Trace, Unlinked, copy_of, first_header, header_in, header_of, is_set_empty, line_share, program, room_of}
 use Rattle.op_model.specs.Tables.Processor.{evict, hit}
-use Rattle.one_history.proofs.Runs.{first-copy, first-header}
-use Rattle.lane_bounds.proofs.Acts.{taken_of}
-use Rattle.lane_bounds.proofs.Lanes.{taken-either}
+use Rattle.one_history.proofs.Public.{first-copy, first-header}
+use Rattle.lane_bounds.proofs.Public.{taken-either, taken_of}
 use Rattle.node_range.specs.Range.{AreIn, IsHeaderIn, IsOfMachine, IsRanged, IsSentIn}
-use Rattle.node_range.proofs.Programs.{next-in}
-use Rattle.node_range.proofs.Rows.{ranged-row}
-use Rattle.node_range.proofs.Tables.{evict-in}
-use Rattle.message_range.proofs.Acts.{evicts-copy}
-use Rattle.message_range.proofs.Events.{filled}
+use Rattle.node_range.proofs.Public.{evict-in, next-in, ranged-row}
+use Rattle.message_range.proofs.Public.{evicts-copy, filled}
 use Rattle.eager_model.specs.Node.{taking}
 use Rattle.eager_model.specs.Rows.{begin_op}
 use Rattle.eager_model.specs.Runs.{Past, past_after, run, start}

@@ -14,11 +14,10 @@ use Rattle.op_model.specs.MessageWords.{IsMsgOf}
 use Rattle.op_model.specs.Shares.{Share, Unlinked, copy_of, header_of, is_set_empty, line_share, room_of}
 use Rattle.op_model.specs.Tables.Processor.{evict, hit, serves}
 use Rattle.node_range.specs.Range.{IsHeaderIn, IsSentIn}
-use Rattle.node_range.proofs.Tables.{evict-in}
+use Rattle.node_range.proofs.Public.{evict-in}
 use Rattle.message_range.specs.Fitting.{AreOnWords, IsInputForOther, IsInputOf, IsMsgForOther, IsShareOf}
-use Rattle.message_range.proofs.Acts.{IsActed, evicts-copy}
-use Rattle.message_range.proofs.Rows.{IsFitting, evict-fits, hit-fits}
-use Rattle.message_range.proofs.Shares.{away-all, content-in, length-messages, row-share, sent-all, share-line}
+use Rattle.message_range.proofs.Public.{IsActed, IsFitting, away-all, content-in, evict-fits, evicts-copy}
+use Rattle.message_range.proofs.Public.{hit-fits, length-messages, row-share, sent-all, share-line}
 use Rattle.eager_model.specs.Node.{local, taking}
 use Rattle.eager_model.specs.Rows.{begin_op}
 use Rattle.eager_part.specs.Part.{IsEagerPart}

@@ -5,8 +5,8 @@ use Rattle.op_model.specs.declared.operations.Op.{Op}
 use Rattle.op_model.specs.Run.Runs.{start_share}
 use Rattle.op_model.specs.Shares.{Unlinked, line_share}
 use Rattle.op_model.specs.Tables.Remote.{is_invalidate}
-use Rattle.one_history.proofs.Runs.{first-header}
-use Rattle.message_range.proofs.Runs.{own-first}
+use Rattle.one_history.proofs.Public.{first-header}
+use Rattle.message_range.proofs.Public.{own-first}
 use Rattle.eager_part.specs.Part.{IsEagerPart}
 use Rattle.eager_part.proofs.Lines.{as-eager}
 

@@ -16,8 +16,7 @@ use Rattle.op_model.specs.Events.Node.{EvictLine, HitNext, Input, IssueNext, Nod
 use Rattle.op_model.specs.Events.Step.{Off, Programs, after, and_then, has_room, none_off, one_off, to_lane}
 use Rattle.op_model.specs.Messages.{msg_class, same_class}
 use Rattle.op_model.specs.Shares.{Share, State, Trace, program}
-use Rattle.op_model.proofs.Plain.{err-ok}
-use Rattle.op_model.proofs.Shares.{same_class-is}
+use Rattle.op_model.proofs.Public.{err-ok, same_class-is}
 use Rattle.eager_model.specs.Node.{aged, local}
 use Rattle.eager_model.specs.Runs.{Past, past_after, run, run_by, start}
 use Rattle.eager_model.specs.Step.{AgedDone, Ages, Call, and_answer, answer, effect, first_age, front, without_ages}

@@ -15,8 +15,8 @@ use Rattle.op_model.specs.OwnPart.{IsOwnLine}
 use Rattle.op_model.specs.Tables.Home.{on_fack, on_get, on_getx, on_inv_ack, on_nakc, on_rpl, on_shwb, on_wb}
 use Rattle.op_model.specs.Tables.Processor.{ask, begin_op, evict, fits, leave_home, leave_remote, serves}
 use Rattle.op_model.specs.Tables.Remote.{asks_well, is_invalidate, meets, on_fwd_get, on_fwd_getx, on_inv, on_message, on_nak, on_put, on_putx, row_of}
-use Rattle.op_model.proofs.Plain.{err-ok, three_parts}
-use Rattle.line_invariant.proofs.Basics.{if-either}
+use Rattle.op_model.proofs.Public.{err-ok, three_parts}
+use Rattle.line_invariant.proofs.Public.{if-either}
 use Rattle.message_range.specs.Fitting.{IsContentForOther}
 use Rattle.eager_model.specs.Rows as eager
 use Rattle.eager_part.proofs.Beginnings.{each-beginning}

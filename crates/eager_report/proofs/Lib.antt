@@ -1,3 +1,4 @@
 pub mod Sorted
 pub mod Lines
 pub mod Orders
+pub mod Public

@@ -5,11 +5,11 @@ use Rattle.std.specs.List.Sorted.{IsSortedBy, IsStableBy}
 use Rattle.std.proofs.lemmas.Bool.{eqb-true}
 use Rattle.std.proofs.lemmas.Bool.Decides.{nat_tests}
 use Rattle.std.proofs.lemmas.List.Elements.{filter-append}
-use Rattle.dir_report.proofs.Ranges.{flat_map-range_more}
+use Rattle.dir_report.proofs.Public.{flat_map-range_more}
 use Rattle.eager_model.specs.History.{put_all, in_age_order}
 use Rattle.eager_model.specs.Runs.{AgedEntry}
 use Rattle.eager_history.specs.Sound.{Each, AreInOrder}
-use Rattle.eager_history.proofs.InOrder.{each-map, each-put-all, filter-order, in-order, put-last}
+use Rattle.eager_history.proofs.Public.{each-map, each-put-all, filter-order, in-order, put-last}
 use Rattle.eager_report.proofs.Sorted.{Rises, is_before, on-later, on-one, rises-sorted, same-sorted, tie, tied-ages, tied-lines}
 
 -- ---- what holds of each entry

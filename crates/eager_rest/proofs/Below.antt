@@ -11,10 +11,9 @@ use Rattle.op_model.specs.Tables.Home.{on_wb}
 use Rattle.op_model.specs.Tables.Home as delayed_home
 use Rattle.op_model.specs.Tables.Remote as delayed
 use Rattle.op_model.specs.Tables.Remote.{asks_well}
-use Rattle.op_model.proofs.Plain.{three_parts}
-use Rattle.line_invariant.proofs.Basics.{if-either}
-use Rattle.rest_laws.proofs.Lighter.{Below, message-below}
-use Rattle.rest_laws.proofs.Sends.{sends-cons, sends-listed, sends-none, sends_weight}
+use Rattle.op_model.proofs.Public.{three_parts}
+use Rattle.line_invariant.proofs.Public.{if-either}
+use Rattle.rest_laws.proofs.Public.{Below, message-below, sends-cons, sends-listed, sends-none, sends_weight}
 use Rattle.eager_model.specs.Rows.{asks_shared, give_and_drain, meets, on_getx, on_inv_ack, on_message, row_of}
 
 module _ (nodes : ℕ) (room : Room) (s : LineShare) (me home src : ℕ) (within : me < nodes) (inside : src < nodes) (off : me ≡ home → listed s.header.list me ≡ false) where

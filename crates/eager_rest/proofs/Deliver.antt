@@ -13,12 +13,11 @@ use Rattle.op_model.specs.Run.Weight.{IsClear, weight}
 use Rattle.op_model.specs.Shares.{Share, State, Trace, Unlinked, header_of, program, room_of}
 use Rattle.op_model.specs.Tables.Home.{wants_victim}
 use Rattle.op_model.specs.Lines.{is_pending}
-use Rattle.rest_laws.proofs.FirstLane.{first-none, first-some}
+use Rattle.rest_laws.proofs.Public.{first-none, first-some}
 use Rattle.eager_model.specs.Node.{aged, local, taking}
 use Rattle.eager_model.specs.Runs.{Past, past_after, run, run_by}
 use Rattle.eager_model.specs.Step.{AgedDone, Ages, and_answer, answer, effect, first_age, front, without_ages}
-use Rattle.eager_part.proofs.Events.{each-taken}
-use Rattle.eager_part.proofs.OwnRuns.{AreOwn, own-event, own-run}
+use Rattle.eager_part.proofs.Public.{AreOwn, each-taken, own-event, own-run}
 use Rattle.eager_rest.specs.Delivery.{Delivery, IsDelivered}
 use Rattle.eager_rest.proofs.Falls.{falls}
 

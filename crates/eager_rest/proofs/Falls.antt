@@ -10,17 +10,14 @@ use Rattle.op_model.specs.Messages.{msg_content, msg_line}
 use Rattle.op_model.specs.Nodes.{listed}
 use Rattle.op_model.specs.Run.Weight.{weight, weight_of}
 use Rattle.op_model.specs.Shares.{State, Trace, Unlinked, header_of, is_set_empty, line_share, program, room_of}
-use Rattle.lane_bounds.proofs.Acts.{taken_of}
+use Rattle.lane_bounds.proofs.Public.{taken_of}
 use Rattle.node_range.specs.Range.{IsOfMachine}
-use Rattle.message_range.proofs.Events.{filled}
-use Rattle.rest_laws.proofs.Weights.{weight-sent, weight-taken}
+use Rattle.message_range.proofs.Public.{filled}
+use Rattle.rest_laws.proofs.Public.{weight-sent, weight-taken}
 use Rattle.eager_model.specs.Node.{taking}
 use Rattle.eager_model.specs.Runs.{Past, run}
 use Rattle.eager_model.specs.Step.{AgedDone, effect, without_ages}
-use Rattle.eager_part.proofs.Events.{each-taken, next}
-use Rattle.eager_part.proofs.Lines.{home-unlisted}
-use Rattle.eager_part.proofs.OwnRuns.{AreOwn, own-run}
-use Rattle.eager_part.proofs.RangedRuns.{ranged-run}
+use Rattle.eager_part.proofs.Public.{AreOwn, each-taken, home-unlisted, next, own-run, ranged-run}
 use Rattle.eager_rest.proofs.Below.{eager-message-below}
 
 module _ (trace : Trace) (state : State) (own : AreOwn trace state) where

@@ -1,3 +1,4 @@
 pub mod Below
 pub mod Falls
 pub mod Deliver
+pub mod Public

@@ -3,7 +3,7 @@ use Rattle.std.proofs.Common.{◌≡◌, ℕ, Bool, true, false, ◌==◌, [], �
 use Rattle.std.proofs.lemmas.Bool.Decides.{nat_tests}
 use Rattle.op_model.specs.Shares.{header_of}
 use Rattle.op_model.specs.Run.History.{entries_by}
-use Rattle.op_model.proofs.Plain.{eqb-swap}
+use Rattle.op_model.proofs.Public.{eqb-swap}
 use Rattle.row_examples.specs.Situations.{owned_by}
 use Rattle.row_examples.specs.Types.{Load, Store}
 use Rattle.eager_model.specs.Runs.{Past}

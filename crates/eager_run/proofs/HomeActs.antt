@@ -10,7 +10,7 @@ use Rattle.op_model.specs.Tables.Home as delayed
 use Rattle.op_model.specs.Tables.Remote as delayed_remote
 use Rattle.op_model.specs.declared.messages.Msg.TheVariants as msg
 use Rattle.row_examples.specs.Situations.{nodes, clean, owned_by}
-use Rattle.row_examples.proofs.Maps.{get-none, remove-empty}
+use Rattle.row_examples.proofs.Public.{get-none, remove-empty}
 use Rattle.eager_model.specs.Types.{Op}
 use Rattle.eager_model.specs.Examples.{draining}
 use Rattle.eager_model.specs.Rows.{meets, row_of, on_message, on_getx, on_inv_ack}

@@ -4,11 +4,11 @@ use Rattle.std.proofs.lemmas.Bool.Decides.{nat_tests}
 use Rattle.std.specs.Ordering.{nat_cmp, eq_by_cmp}
 use Rattle.std.specs.Cmp.{unsigned_tied}
 use Rattle.std.specs.FinMap as fin
-use Rattle.row_examples.proofs.Maps.{get-put}
+use Rattle.row_examples.proofs.Public.{get-put}
 use Rattle.op_model.specs.Operations.{is_load, written}
 use Rattle.op_model.specs.Flat.{FlatMemory, flat_at, after_entry, IsLegalFrom}
 use Rattle.op_model.specs.Run.History.{entries_by}
-use Rattle.op_model.proofs.Plain.{eqb-self}
+use Rattle.op_model.proofs.Public.{eqb-self}
 use Rattle.row_examples.specs.Types.{Store}
 use Rattle.eager_model.specs.Types.{Entry}
 

@@ -8,7 +8,7 @@ use Rattle.line_map.specs.Sizes.{Sizes}
 use Rattle.op_model.specs.Lines.{Copy, Absent, Shared, Exclusive, Header, is_pending}
 use Rattle.op_model.specs.Shares.{Share, Copies, Headers, copy_in, header_in, put_copy, pending_among, is_set_free, is_set_taken}
 use Rattle.op_model.specs.Run.Runs.{start_share}
-use Rattle.row_examples.proofs.Maps.{maps, get-put, get-none}
+use Rattle.row_examples.proofs.Public.{get-none, get-put, maps}
 use Rattle.row_examples.specs.Types.{Want}
 use Rattle.eager_run.specs.Worked.{worked}
 

@@ -9,11 +9,9 @@ use Rattle.op_model.specs.Run.Rest.{IsAtRest}
 use Rattle.op_model.specs.Shares.{Lanes, Share, State, Trace, Unlinked, copy_of, header_of, line_share, room_of}
 use Rattle.op_model.specs.Tables.Home.{on_get}
 use Rattle.op_model.specs.Tables.Processor.{serves}
-use Rattle.lane_bounds.proofs.Acts.{after_row_of, sent_of, taken_of}
-use Rattle.schedule_laws.proofs.Known.{IsUsual}
-use Rattle.schedule_laws.proofs.Requests.{IsForwarded}
-use Rattle.schedule_laws.proofs.Settling.{IsTracked}
-use Rattle.schedule_laws.proofs.Single.{OnlyOne, OnlySent, one-sent, one-taken, only-sent}
+use Rattle.lane_bounds.proofs.Public.{after_row_of, sent_of, taken_of}
+use Rattle.schedule_laws.proofs.Public.{IsForwarded, IsTracked, IsUsual, OnlyOne, OnlySent, one-sent}
+use Rattle.schedule_laws.proofs.Public.{one-taken, only-sent}
 use Rattle.eager_model.specs.Rows.{on_getx}
 use Rattle.eager_model.specs.Runs.{Past}
 use Rattle.eager_schedule.proofs.Moments.{idle-at, room-free, unlisted-at}

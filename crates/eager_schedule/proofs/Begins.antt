@@ -16,12 +16,12 @@ use Rattle.op_model.specs.Lines.{Outcome}
 use Rattle.op_model.specs.Run.Schedules.{make_room, other_in_set, processor_event}
 use Rattle.op_model.specs.Shares.{Share, State, Trace, Unlinked, conflicts, copy_of, line_share, program, room_of}
 use Rattle.op_model.specs.Tables.Processor.{evict, hit, serves}
-use Rattle.lane_bounds.proofs.Acts.{after_row_of}
+use Rattle.lane_bounds.proofs.Public.{after_row_of}
 use Rattle.eager_model.specs.Node.{aged, issue_next, local}
 use Rattle.eager_model.specs.Rows.{begin_op}
 use Rattle.eager_model.specs.Runs.{Past}
 use Rattle.eager_model.specs.Step.{AgedDone, effect, without_ages}
-use Rattle.eager_part.proofs.Events.{row-after}
+use Rattle.eager_part.proofs.Public.{row-after}
 
 -- an event does this row of a line at a node, and nothing else
 abbrev pub IsMade : Trace → Past → Event → ℕ → ℕ → Outcome → Type 0

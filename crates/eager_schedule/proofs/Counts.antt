@@ -7,8 +7,8 @@ use Rattle.op_model.specs.Lines.{is_idle, is_pending, is_outstanding}
 use Rattle.op_model.specs.Messages.{Content}
 use Rattle.line_invariant.specs.Good.{IsCarried, NoDuty, answer_part, asking_part, leaving_part, reply_part, told_part}
 use Rattle.line_invariant.specs.Line.{Line}
-use Rattle.lane_bounds.proofs.Homes.{one_if}
-use Rattle.lane_bounds.proofs.Spelled.{asks-few, is_answer, is_ask, is_back, is_told, many, no-told, replies-few, reply-kinds, request-kinds, told-few}
+use Rattle.lane_bounds.proofs.Public.{asks-few, is_answer, is_ask, is_back, is_told, many, no-told, one_if}
+use Rattle.lane_bounds.proofs.Public.{replies-few, reply-kinds, request-kinds, told-few}
 use Rattle.eager_model.specs.Good.{IsDraining, IsEagerGood}
 use Rattle.eager_model.specs.Line.{AgedLine}
 

@@ -15,16 +15,12 @@ use Rattle.op_model.specs.Run.Rest.{IsAtRest}
 use Rattle.op_model.specs.Run.Schedules.{eviction_of, serial_next}
 use Rattle.op_model.specs.Shares.{Lanes, Share, State, Trace, Unlinked, copy_of, line_share, program, put_share, want_on}
 use Rattle.op_model.specs.Tables.Processor.{evict}
-use Rattle.one_history.proofs.Moves.{put-stays}
-use Rattle.one_history.proofs.Shares.{copy-other, copy-same}
-use Rattle.lane_bounds.proofs.Acts.{after_row_of, sent_of, taken_of}
-use Rattle.schedule_laws.proofs.Evicts.{IsEviction, evicts}
-use Rattle.schedule_laws.proofs.Known.{IsUsual}
-use Rattle.schedule_laws.proofs.Settled.{settles, still, still_sent}
-use Rattle.schedule_laws.proofs.Settling.{at-share}
-use Rattle.schedule_laws.proofs.Single.{AreEmpty, OnlyOne, OnlySent, none-sent, one-sent, one-taken, only-sent}
+use Rattle.one_history.proofs.Public.{copy-other, copy-same, put-stays}
+use Rattle.lane_bounds.proofs.Public.{after_row_of, sent_of, taken_of}
+use Rattle.schedule_laws.proofs.Public.{AreEmpty, IsEviction, IsUsual, OnlyOne, OnlySent, at-share, evicts}
+use Rattle.schedule_laws.proofs.Public.{none-sent, one-sent, one-taken, only-sent, settles, still, still_sent}
 use Rattle.eager_model.specs.Runs.{Past, past_after}
-use Rattle.eager_part.proofs.RangedRuns.{copy-in, ranged-run}
+use Rattle.eager_part.proofs.Public.{copy-in, ranged-run}
 use Rattle.eager_schedule.proofs.Begins.{evict-made}
 use Rattle.eager_schedule.proofs.Quiet.{resting}
 use Rattle.eager_schedule.proofs.Rounds.{IsRound, round-after, round-wider}

@@ -12,13 +12,10 @@ use Rattle.op_model.specs.Run.Rest.{IsAtRest}
 use Rattle.op_model.specs.Run.Schedules.{serial_next}
 use Rattle.op_model.specs.Shares.{State, Trace, Unlinked, conflicts, copy_of, header_of, line_share, program, room_of, want_on}
 use Rattle.op_model.specs.Tables.Processor.{ask, serves}
-use Rattle.lane_bounds.proofs.Acts.{after_row_of}
-use Rattle.node_range.proofs.Programs.{next-in}
-use Rattle.schedule_laws.proofs.Asked.{serves-exclusive}
-use Rattle.schedule_laws.proofs.Known.{IsUsual}
-use Rattle.schedule_laws.proofs.Requests.{IsBegunAs, ask-row}
-use Rattle.schedule_laws.proofs.Settling.{GoesOn, IsTracked}
-use Rattle.schedule_laws.proofs.Single.{OnlyOne, OnlySent, one-sent, only-sent}
+use Rattle.lane_bounds.proofs.Public.{after_row_of}
+use Rattle.node_range.proofs.Public.{next-in}
+use Rattle.schedule_laws.proofs.Public.{GoesOn, IsBegunAs, IsTracked, IsUsual, OnlyOne, OnlySent, ask-row}
+use Rattle.schedule_laws.proofs.Public.{one-sent, only-sent, serves-exclusive}
 use Rattle.eager_model.specs.Rows.{begin_op}
 use Rattle.eager_model.specs.Runs.{Past, past_after}
 use Rattle.eager_schedule.proofs.Asked.{round-get, round-getx}

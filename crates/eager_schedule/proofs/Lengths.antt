@@ -15,17 +15,14 @@ use Rattle.op_model.specs.Messages.{Content}
 use Rattle.op_model.specs.Run.Bounds.{lane_bound}
 use Rattle.op_model.specs.Shares.{State, Trace, Unlinked, header_of, pending_lines, want_on}
 use Rattle.one_history.specs.Project.{of_line, project}
-use Rattle.lane_bounds.proofs.Counts.{all-kinds, begun-one, begun-wanted, begun_lines, kind}
-use Rattle.lane_bounds.proofs.Homes.{amount-header, one_if}
-use Rattle.lane_bounds.proofs.Kept.{IsBounded}
-use Rattle.lane_bounds.proofs.Lanes.{departs-weighed}
-use Rattle.lane_bounds.proofs.Spelled.{is_answer, is_ask, is_back, is_told, many}
-use Rattle.lane_bounds.proofs.Sums.{amount, spread}
+use Rattle.lane_bounds.proofs.Public.{IsBounded, all-kinds, amount, amount-header, begun-one, begun-wanted}
+use Rattle.lane_bounds.proofs.Public.{begun_lines, departs-weighed, is_answer, is_ask, is_back, is_told, kind}
+use Rattle.lane_bounds.proofs.Public.{many, one_if, spread}
 use Rattle.eager_model.specs.Runs.{Past, run}
 use Rattle.eager_history.specs.Project.{aged_line}
 use Rattle.eager_history.specs.Sound.{IsEagerSound}
-use Rattle.eager_history.proofs.Runs.{sound-run}
-use Rattle.eager_part.proofs.BoundRuns.{bounded-run}
+use Rattle.eager_history.proofs.Public.{sound-run}
+use Rattle.eager_part.proofs.Public.{bounded-run}
 use Rattle.eager_schedule.proofs.Counts.{few-replies, few-requests}
 
 module _ (sizes : Sizes) (state : State) where

@@ -18,3 +18,4 @@ pub mod Operations
 pub mod Serials
 pub mod Promised
 pub mod Places
+pub mod Public

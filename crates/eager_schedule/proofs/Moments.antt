@@ -6,16 +6,14 @@ use Rattle.op_model.specs.Nodes.{listed}
 use Rattle.op_model.specs.Run.Rest.{IsAtRest}
 use Rattle.op_model.specs.Shares.{Lanes, Share, State, Trace, Unlinked, copy_of, header_of, pending_lines, put_share, room_of, want_after}
 use Rattle.one_history.specs.Project.{project}
-use Rattle.lane_bounds.proofs.Acts.{after_row_of}
-use Rattle.schedule_laws.proofs.Known.{IsUsual}
-use Rattle.schedule_laws.proofs.RestLines.{IsRestLine, rest-line}
-use Rattle.schedule_laws.proofs.RestMoments.{not-full}
-use Rattle.schedule_laws.proofs.Settling.{GoesOn, IsTracked, IsUnderway, at-share}
+use Rattle.lane_bounds.proofs.Public.{after_row_of}
+use Rattle.schedule_laws.proofs.Public.{GoesOn, IsRestLine, IsTracked, IsUnderway, IsUsual, at-share}
+use Rattle.schedule_laws.proofs.Public.{not-full, rest-line}
 use Rattle.eager_model.specs.Line.{AgedLine}
 use Rattle.eager_model.specs.Runs.{Past}
 use Rattle.eager_history.specs.Project.{aged_line}
 use Rattle.eager_history.specs.Sound.{IsEagerSound}
-use Rattle.eager_history.proofs.Runs.{sound-run}
+use Rattle.eager_history.proofs.Public.{sound-run}
 use Rattle.eager_schedule.proofs.Quiet.{good-at, idle, none-under}
 use Rattle.eager_schedule.proofs.Runs.{IsReached}
 

@@ -10,21 +10,19 @@ use Rattle.op_model.specs.Run.Rest.{IsAtRest}
 use Rattle.op_model.specs.Run.Schedules.{current, lane_or_next, make_room, other_in_set, processor_event, serial_next}
 use Rattle.op_model.specs.Shares.{State, Trace, Unlinked, copy_of, line_share, program, want_on}
 use Rattle.op_model.specs.Tables.Processor.{hit, serves}
-use Rattle.op_model.proofs.Shares.{empty-copy}
+use Rattle.op_model.proofs.Public.{empty-copy}
 use Rattle.one_history.specs.Sound.{IsCached}
 use Rattle.node_range.specs.Range.{IsOfMachine}
-use Rattle.node_range.proofs.Programs.{next-in}
-use Rattle.rest_laws.proofs.FirstLane.{clear-none}
+use Rattle.node_range.proofs.Public.{next-in}
+use Rattle.rest_laws.proofs.Public.{clear-none}
 use Rattle.schedule_laws.specs.Ends.{IsInOrder}
-use Rattle.schedule_laws.proofs.Alone.{IsAlone, absent-other, other-none, other-some}
-use Rattle.schedule_laws.proofs.Known.{IsUsual}
-use Rattle.schedule_laws.proofs.Settling.{IsTracked}
-use Rattle.schedule_laws.proofs.Single.{none-sent, only-sent}
-use Rattle.schedule_laws.proofs.Usual.{usual}
-use Rattle.serial_steps.proofs.Next.{current-same, done-at-least, found, is-below, is-over, next-op, open_op}
+use Rattle.schedule_laws.proofs.Public.{IsAlone, IsTracked, IsUsual, absent-other, none-sent, only-sent}
+use Rattle.schedule_laws.proofs.Public.{other-none, other-some, usual}
+use Rattle.serial_steps.proofs.Public.{current-same, done-at-least, found, is-below, is-over, next-op}
+use Rattle.serial_steps.proofs.Public.{open_op}
 use Rattle.eager_model.specs.Laws.{CompletesWithin}
 use Rattle.eager_model.specs.Runs.{Past, past_after, run}
-use Rattle.eager_history.proofs.Runs.{sound-run}
+use Rattle.eager_history.proofs.Public.{sound-run}
 use Rattle.eager_schedule.proofs.Begins.{event-hit, event-missed, hit-made}
 use Rattle.eager_schedule.proofs.Evicts.{round-evicted}
 use Rattle.eager_schedule.proofs.Issues.{issue-any}

@@ -7,13 +7,10 @@ use Rattle.op_model.specs.Nodes.{listed}
 use Rattle.op_model.specs.Run.Rest.{IsAtRest}
 use Rattle.op_model.specs.Shares.{State, Trace, copy_of, header_of}
 use Rattle.op_model.specs.Tables.Processor.{serves}
-use Rattle.line_invariant.proofs.Basics.{owner-only}
-use Rattle.schedule_laws.proofs.Asked.{serves-exclusive}
-use Rattle.schedule_laws.proofs.Known.{IsUsual}
-use Rattle.schedule_laws.proofs.RestLines.{IsRestLine}
-use Rattle.schedule_laws.proofs.RestMoments.{listed-only}
+use Rattle.line_invariant.proofs.Public.{owner-only}
+use Rattle.schedule_laws.proofs.Public.{IsRestLine, IsUsual, listed-only, serves-exclusive}
 use Rattle.eager_model.specs.Runs.{Past}
-use Rattle.eager_part.proofs.RangedRuns.{ranged-run}
+use Rattle.eager_part.proofs.Public.{ranged-run}
 use Rattle.eager_schedule.proofs.Moments.{rest-at}
 use Rattle.eager_schedule.proofs.Runs.{IsReached}
 

@@ -8,10 +8,10 @@ use Rattle.op_model.specs.Lines.{Outcome}
 use Rattle.op_model.specs.Messages.{msg_line}
 use Rattle.op_model.specs.Shares.{Lanes, State, line_share, put_share}
 use Rattle.op_model.specs.Tables.Processor.{hit}
-use Rattle.lane_bounds.proofs.Acts.{taken_of}
+use Rattle.lane_bounds.proofs.Public.{taken_of}
 use Rattle.eager_model.specs.Node.{taking}
 use Rattle.eager_model.specs.Step.{AgedDone, Ages, effect, without_ages}
-use Rattle.eager_part.proofs.Events.{each-event, next}
+use Rattle.eager_part.proofs.Public.{each-event, next}
 
 module _ (sizes : Sizes) (programs : Programs) (state : State) (node : ℕ) where
   abbrev Rises : State → Type 0

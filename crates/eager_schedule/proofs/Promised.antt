@@ -5,12 +5,10 @@ use Rattle.op_model.specs.declared.events.Event.{Event}
 use Rattle.op_model.specs.Shares.{Trace}
 use Rattle.node_range.specs.Range.{IsOfMachine}
 use Rattle.schedule_laws.specs.Ends.{IsInOrder}
-use Rattle.schedule_laws.proofs.Known.{IsUsual}
-use Rattle.schedule_laws.proofs.Usual.{usual}
+use Rattle.schedule_laws.proofs.Public.{IsUsual, usual}
 use Rattle.eager_model.specs.Runs.{Past, run}
-use Rattle.eager_history.proofs.LineHistory.{one-line-history}
-use Rattle.eager_history.proofs.Runs.{sound-run}
-use Rattle.eager_rest.proofs.Falls.{falling_take}
+use Rattle.eager_history.proofs.Public.{one-line-history, sound-run}
+use Rattle.eager_rest.proofs.Public.{falling_take}
 use Rattle.eager_schedule.specs.Promises.{KeepsPromise}
 use Rattle.eager_schedule.proofs.Lengths.{bounded_lanes}
 use Rattle.eager_schedule.proofs.Operations.{each_operation}

@@ -12,23 +12,21 @@ use Rattle.op_model.specs.Nodes.{listed}
 use Rattle.op_model.specs.Run.Rest.{IsAtRest}
 use Rattle.op_model.specs.Run.Weight.{IsClear, IsEmpty}
 use Rattle.op_model.specs.Shares.{Trace, Unlinked, header_of}
-use Rattle.op_model.proofs.Plain.{eqb-self}
+use Rattle.op_model.proofs.Public.{eqb-self}
 use Rattle.line_invariant.specs.Good.{IsGood, IsOnDuty, NoDuty, Recalled, answer_part, expected}
 use Rattle.one_history.specs.Project.{of_line, project}
-use Rattle.lane_bounds.proofs.Kept.{IsBounded}
-use Rattle.link_refusals.proofs.Entries.{Found, found}
+use Rattle.lane_bounds.proofs.Public.{IsBounded}
+use Rattle.link_refusals.proofs.Public.{Found, found}
 use Rattle.node_range.specs.Range.{IsOfMachine}
-use Rattle.rest_laws.proofs.AtRest.{all-clear, count-none, none-begun}
-use Rattle.rest_laws.proofs.Links.{entry-own, header-found}
-use Rattle.rest_laws.proofs.Quiet.{app-none, quiet-header, quiet-want, silent-duty, some-listed}
+use Rattle.rest_laws.proofs.Public.{all-clear, app-none, count-none, entry-own, header-found, none-begun}
+use Rattle.rest_laws.proofs.Public.{quiet-header, quiet-want, silent-duty, some-listed}
 use Rattle.eager_model.specs.Good.{IsDraining, IsEagerGood, draining_role}
 use Rattle.eager_model.specs.Line.{AgedLine}
 use Rattle.eager_model.specs.Runs.{Past, run}
 use Rattle.eager_history.specs.Project.{aged_line}
 use Rattle.eager_history.specs.Sound.{IsEagerSound}
-use Rattle.eager_history.proofs.Runs.{sound-run}
-use Rattle.eager_part.proofs.BoundRuns.{bounded-run}
-use Rattle.eager_part.proofs.RangedRuns.{ranged-run}
+use Rattle.eager_history.proofs.Public.{sound-run}
+use Rattle.eager_part.proofs.Public.{bounded-run, ranged-run}
 
 module _ (home : ℕ) (line : AgedLine) (empty : (a b : ℕ) (class : Class) → line.line.lane a b class ≡ []) where
   module _ (drains : IsDraining home line) where

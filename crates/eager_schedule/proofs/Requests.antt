@@ -15,12 +15,10 @@ use Rattle.op_model.specs.Tables.Home as delayed_home
 use Rattle.op_model.specs.Tables.Processor.{ask, begin_at_home, forward_get_home, forward_getx_home, invalidate_for_home, load_at_home, serves, write_at_home}
 use Rattle.op_model.specs.Tables.Processor as delayed
 use Rattle.op_model.specs.Tables.Remote as delayed_remote
-use Rattle.op_model.proofs.Plain.{eqb-self}
-use Rattle.rest_laws.proofs.Sends.{sends-cons, sends-none, sends_weight}
-use Rattle.schedule_laws.proofs.Gets.{listed-weight}
-use Rattle.schedule_laws.proofs.Requests.{IsAnswered, IsBegunAs, IsForwarded, IsPassive, each-settles, get-row}
-use Rattle.schedule_laws.proofs.Settled.{AllSettle, still}
-use Rattle.schedule_laws.proofs.Settling.{still-weight}
+use Rattle.op_model.proofs.Public.{eqb-self}
+use Rattle.rest_laws.proofs.Public.{sends-cons, sends-none, sends_weight}
+use Rattle.schedule_laws.proofs.Public.{AllSettle, IsAnswered, IsBegunAs, IsForwarded, IsPassive}
+use Rattle.schedule_laws.proofs.Public.{each-settles, get-row, listed-weight, still, still-weight}
 use Rattle.eager_model.specs.Rows.{begin_op, give_and_drain, meets, on_getx, on_message, row_of, write_and_drain}
 
 -- what is sent settles, within two messages for each node

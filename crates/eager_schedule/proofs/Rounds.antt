@@ -7,15 +7,12 @@ use Rattle.op_model.specs.Messages.{msg_content, msg_line}
 use Rattle.op_model.specs.Run.Rest.{IsAtRest}
 use Rattle.op_model.specs.Run.Schedules.{Lane, current, delivery, first_busy, lane_or_next, serial_next}
 use Rattle.op_model.specs.Shares.{Share, State, Trace, Unlinked, is_set_empty, line_share, program, room_of}
-use Rattle.rest_laws.proofs.FirstLane.{first-none, first-some}
-use Rattle.schedule_laws.proofs.Known.{IsUsual}
-use Rattle.schedule_laws.proofs.Settling.{IsTracked, IsUnderway, Settles}
-use Rattle.schedule_laws.proofs.Under.{under-front}
+use Rattle.rest_laws.proofs.Public.{first-none, first-some}
+use Rattle.schedule_laws.proofs.Public.{IsTracked, IsUnderway, IsUsual, Settles, under-front}
 use Rattle.eager_model.specs.Runs.{Past, past_after}
 use Rattle.eager_model.specs.Step.{AgedDone, effect, without_ages}
-use Rattle.eager_part.proofs.Events.{each-taken}
-use Rattle.eager_part.proofs.OwnRuns.{own-run}
-use Rattle.eager_rest.proofs.Deliver.{delivery-done, delivery-takes}
+use Rattle.eager_part.proofs.Public.{each-taken, own-run}
+use Rattle.eager_rest.proofs.Public.{delivery-done, delivery-takes}
 use Rattle.eager_schedule.specs.Courses.{IsCourse}
 use Rattle.eager_schedule.proofs.Quiet.{resting_clear}
 use Rattle.eager_schedule.proofs.Runs.{IsReached, reached-event}

@@ -10,11 +10,8 @@ use Rattle.op_model.specs.Run.Schedules.{current, first_busy}
 use Rattle.op_model.specs.Shares.{Trace, Unlinked, program}
 use Rattle.node_range.specs.Range.{IsOfMachine}
 use Rattle.schedule_laws.specs.Ends.{AreAllDone, IsInOrder}
-use Rattle.schedule_laws.proofs.Finishes.{none-next, rest-quiet}
-use Rattle.schedule_laws.proofs.Known.{IsUsual}
-use Rattle.schedule_laws.proofs.Lists.{at-end}
-use Rattle.schedule_laws.proofs.Orders.{HaveDone, all-places, current-is, current-none, done-more, next-op}
-use Rattle.schedule_laws.proofs.Usual.{usual}
+use Rattle.schedule_laws.proofs.Public.{HaveDone, IsUsual, all-places, at-end, current-is, current-none}
+use Rattle.schedule_laws.proofs.Public.{done-more, next-op, none-next, rest-quiet, usual}
 use Rattle.eager_model.specs.Laws.{IsSerial}
 use Rattle.eager_model.specs.Runs.{Past, run, start}
 use Rattle.eager_schedule.specs.Courses.{IsCourse, SerialEnd}

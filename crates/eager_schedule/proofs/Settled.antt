@@ -7,11 +7,10 @@ use Rattle.op_model.specs.Lines.{Header, LineShare, Room, Outcome, sending, is_i
 use Rattle.op_model.specs.Tables.Home.{on_fack, on_rpl, on_shwb, on_wb}
 use Rattle.op_model.specs.Tables.Remote.{on_inv, on_nak, on_put, on_putx}
 use Rattle.op_model.specs.Tables.Remote as delayed
-use Rattle.line_invariant.proofs.Basics.{if-either}
+use Rattle.line_invariant.proofs.Public.{if-either}
 use Rattle.schedule_laws.specs.Courses.{is_any_nak}
-use Rattle.schedule_laws.proofs.Settled.{AllSettle, settles, still, still_sent}
-use Rattle.schedule_laws.proofs.Settled as before
-use Rattle.schedule_laws.proofs.Settling.{GoesOn}
+use Rattle.schedule_laws.proofs.Public.{AllSettle, GoesOn, settles, still, still_sent}
+use Rattle.schedule_laws.proofs.Public as before
 use Rattle.eager_model.specs.Rows.{meets, on_inv_ack, on_message, row_of}
 
 -- a row of a message that settles

@@ -6,11 +6,10 @@ use Rattle.op_model.specs.declared.messages.Msg.{Msg}
 use Rattle.op_model.specs.Messages.{msg_content, msg_line}
 use Rattle.op_model.specs.Lines.{Outcome}
 use Rattle.op_model.specs.Shares.{Lanes, State, line_share}
-use Rattle.lane_bounds.proofs.Acts.{after_row_of, taken_of}
-use Rattle.rest_laws.proofs.Weights.{weight-sent, weight-taken, weight_by}
-use Rattle.schedule_laws.proofs.Settled.{still}
-use Rattle.schedule_laws.proofs.Settling.{IsTracked, Settles, all-settle, still-weight, tracked-after}
-use Rattle.schedule_laws.proofs.Under.{AllUnder, under-front, under-sent, under-taken}
+use Rattle.lane_bounds.proofs.Public.{after_row_of, taken_of}
+use Rattle.rest_laws.proofs.Public.{weight-sent, weight-taken, weight_by}
+use Rattle.schedule_laws.proofs.Public.{AllUnder, IsTracked, Settles, all-settle, still, still-weight}
+use Rattle.schedule_laws.proofs.Public.{tracked-after, under-front, under-sent, under-taken}
 use Rattle.eager_schedule.proofs.Settled.{IsSettling}
 
 -- how many messages are still taken

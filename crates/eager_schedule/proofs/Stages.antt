@@ -7,15 +7,12 @@ use Rattle.op_model.specs.Messages.{Content, FwdGet, FwdGetX, message}
 use Rattle.op_model.specs.Shares.{Lanes, State, Trace, copy_of, line_share}
 use Rattle.op_model.specs.Tables.Remote.{on_fwd_get, on_fwd_getx}
 use Rattle.op_model.specs.Tables.Remote as delayed
-use Rattle.lane_bounds.proofs.Acts.{after_row_of, sent_of}
-use Rattle.rest_laws.proofs.Sends.{sends_weight}
-use Rattle.rest_laws.proofs.Weights.{weight_by}
-use Rattle.schedule_laws.proofs.Known.{IsUsual}
-use Rattle.schedule_laws.proofs.Requests.{IsHandedOn, IsPassive, forward-row, forwardx-row}
-use Rattle.schedule_laws.proofs.Settled.{AllSettle, still}
-use Rattle.schedule_laws.proofs.Settling.{IsTracked, Settles, all-settle, at-share, still-weight, tracked-after}
-use Rattle.schedule_laws.proofs.Single.{AreEmpty, OnlyOne, one-taken, sent-weight, under-empty}
-use Rattle.schedule_laws.proofs.Under.{AllUnder, under-sent}
+use Rattle.lane_bounds.proofs.Public.{after_row_of, sent_of}
+use Rattle.rest_laws.proofs.Public.{sends_weight, weight_by}
+use Rattle.schedule_laws.proofs.Public.{AllSettle, AllUnder, AreEmpty, IsHandedOn, IsPassive, IsTracked}
+use Rattle.schedule_laws.proofs.Public.{IsUsual, OnlyOne, Settles, all-settle, at-share, forward-row}
+use Rattle.schedule_laws.proofs.Public.{forwardx-row, one-taken, sent-weight, still, still-weight}
+use Rattle.schedule_laws.proofs.Public.{tracked-after, under-empty, under-sent}
 use Rattle.eager_model.specs.Rows.{meets, on_message, row_of}
 use Rattle.eager_model.specs.Runs.{Past}
 use Rattle.eager_schedule.proofs.Rounds.{IsRound, settle}

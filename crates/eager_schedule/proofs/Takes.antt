@@ -6,19 +6,15 @@ use Rattle.op_model.specs.Lines.{Outcome}
 use Rattle.op_model.specs.Messages.{Content, message, msg_class, msg_content, msg_content-message, msg_line, msg_line-message}
 use Rattle.op_model.specs.Run.Schedules.{Lane, delivery, first_busy}
 use Rattle.op_model.specs.Shares.{Lanes, Share, State, Trace, Unlinked, is_set_empty, line_share, program, room_of}
-use Rattle.lane_bounds.proofs.Acts.{after_row_of, taken_of}
-use Rattle.schedule_laws.proofs.Known.{IsUsual}
-use Rattle.schedule_laws.proofs.Single.{OnlyOne, first-one, one-front}
-use Rattle.schedule_laws.proofs.Takes.{same-front}
+use Rattle.lane_bounds.proofs.Public.{after_row_of, taken_of}
+use Rattle.schedule_laws.proofs.Public.{IsUsual, OnlyOne, first-one, one-front, same-front}
 use Rattle.eager_model.specs.Node.{meets_row}
 use Rattle.eager_model.specs.Rows.{meets, on_message}
 use Rattle.eager_model.specs.Runs.{Past, past_after}
 use Rattle.eager_model.specs.Step.{effect}
-use Rattle.eager_history.proofs.Runs.{sound-run}
-use Rattle.eager_history.proofs.Takes.{sound-meets}
-use Rattle.eager_part.proofs.Events.{each-taken}
-use Rattle.eager_part.proofs.OwnRuns.{own-run}
-use Rattle.eager_rest.proofs.Deliver.{delivery-done, delivery-takes}
+use Rattle.eager_history.proofs.Public.{sound-meets, sound-run}
+use Rattle.eager_part.proofs.Public.{each-taken, own-run}
+use Rattle.eager_rest.proofs.Public.{delivery-done, delivery-takes}
 use Rattle.eager_schedule.proofs.Rounds.{IsRound, delivers, round-after}
 use Rattle.eager_schedule.proofs.Runs.{IsReached, reached-event}
 

@@ -12,7 +12,7 @@ use Rattle.op_model.specs.Events.Step.{Programs}
 use Rattle.op_model.specs.Run.History.{entries_by}
 use Rattle.op_model.specs.Programs.{programs_of}
 use Rattle.hist_check.specs.Good.{all_missing, missing_at}
-use Rattle.one_history.proofs.Order.{by-append}
+use Rattle.one_history.proofs.Public.{by-append}
 use Rattle.hist_check.specs.Counts.{missing_by}
 
 sum-more : (f : ℕ → ℕ) (a n j : ℕ) → a + n ≡ j → sum_by f (range_with_len a (suc n)) ≡ sum_by f (range_with_len a n) + f j

@@ -8,11 +8,11 @@ use Rattle.std.proofs.lemmas.List.Elements.{All-nil, All-head, All-tail, All-pus
 use Rattle.std.proofs.lemmas.Slice.Eq.{bytes_eq-Decides}
 use Rattle.op_model.specs.Shares.{Trace}
 use Rattle.text_lines.specs.Lines.{Line, lines_of, without_return, is_skipped, kept, left}
-use Rattle.text_lines.proofs.Cutting.{cut_nowhere, line_none}
+use Rattle.text_lines.proofs.Public.{cut_nowhere, line_none}
 use Rattle.trace_text.specs.declared.fault.TraceError.{TraceError}
 use Rattle.trace_text.specs.Reading.{trace_in, trace_of}
 use Rattle.trace_text.specs.Spelling.{Ends, EndsBehindSteps, IsSpelled}
-use Rattle.trace_text.proofs.Spelled.{read_spelled}
+use Rattle.trace_text.proofs.Public.{read_spelled}
 use Rattle.hist_check.specs.Cut.{is_end, HaveNoEnd, EndThere, IsCut, with_rest, IsApart, IsFirstLine}
 use Rattle.hist_check.proofs.Ends.{NoneEnds, trace_whole}
 

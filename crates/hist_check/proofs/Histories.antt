@@ -9,7 +9,7 @@ use Rattle.op_model.specs.declared.operations.Entry.{Entry}
 use Rattle.op_model.specs.Flat.{FlatMemory, IsLegalAt, IsLegalFrom, after_entry, after_from}
 use Rattle.op_model.specs.Events.Step.{Programs}
 use Rattle.op_model.specs.Run.History.{Follows, IsNext, entries_by}
-use Rattle.one_history.proofs.Order.{by-append}
+use Rattle.one_history.proofs.Public.{by-append}
 use Rattle.hist_check.specs.declared.fault.EntryCause.{EntryCause}
 use Rattle.hist_check.specs.declared.fault.EntryCause.TheVariants.{Foreign, Order, Differs, Value}
 use Rattle.hist_check.specs.Good.{IsGood}

@@ -7,3 +7,4 @@ pub mod Named
 pub mod Spelled
 pub mod Ends
 pub mod Cuts
+pub mod Public

@@ -7,7 +7,7 @@ use Rattle.std.proofs.lemmas.Bool.{cases_Bool}
 use Rattle.line_map.specs.Sizes.{Sizes, ◌>>=◌}
 use Rattle.op_model.specs.declared.operations.Entry.{Entry}
 use Rattle.text_lines.specs.Lines.{Line, Input, left, words_of}
-use Rattle.text_lines.proofs.Places.{Has, has_later, has_first, line_named}
+use Rattle.text_lines.proofs.Public.{Has, has_first, has_later, line_named}
 use Rattle.trace_text.specs.declared.fault.TraceCause.{TraceCause}
 use Rattle.trace_text.specs.declared.fault.TraceCause.TheVariants.{NoEnd}
 use Rattle.trace_text.specs.Forms.{named}

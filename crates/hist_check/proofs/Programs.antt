@@ -13,7 +13,7 @@ use Rattle.op_model.specs.Shares.{Trace, program, Charge}
 use Rattle.op_model.specs.Events.Step.{Programs}
 use Rattle.op_model.specs.Run.Runs.{Past, run}
 use Rattle.op_model.specs.Run.History.{history, entries_by, Follows}
-use Rattle.one_history.proofs.OneHistory.{one_history}
+use Rattle.one_history.proofs.Public.{one_history}
 use Rattle.trace_text.specs.Traces.{IsTrace, programs_of as program_list}
 use Rattle.op_model.specs.Programs.{programs_of}
 use Rattle.hist_check.specs.Good.{IsGood}

@@ -11,7 +11,7 @@ use Rattle.std.proofs.lemmas.List.Elements.{All-cons, All-nil}
 use Rattle.line_map.specs.Sizes.{Sizes}
 use Rattle.op_model.specs.declared.operations.Entry.{Entry}
 use Rattle.text_lines.specs.Lines.{Line, Input, words_of}
-use Rattle.text_lines.proofs.Inversion.{bind_ok, same_value}
+use Rattle.text_lines.proofs.Public.{bind_ok, same_value}
 use Rattle.trace_text.specs.declared.fault.TraceCause.{TraceCause}
 use Rattle.hist_check.specs.declared.fault.EntriesError.{EntriesError}
 use Rattle.hist_check.specs.Forms.{entry_form}

@@ -5,7 +5,7 @@ use Rattle.op_model.specs.declared.messages.NakCause.TheVariants.{Pending, NoLin
 use Rattle.op_model.specs.Lines.{Header, LineShare, Room, NoService, Outcome, is_idle}
 use Rattle.op_model.specs.Shares.{line_share, header_of, header_in, Copies}
 use Rattle.op_model.specs.Tables.Home.{on_get, wants_victim, lacks_link, refuse, share_home_copy, share_memory, forward_get}
-use Rattle.op_model.proofs.Plain.{three_parts}
+use Rattle.op_model.proofs.Public.{three_parts}
 use Rattle.cpu_cache.specs.Processors.{ProcView}
 use Rattle.dir_header.specs.HomeSides.{HomeView, header_at, room_in}
 use Rattle.node_share.specs.Parts.{share_of}

@@ -10,8 +10,7 @@ use Rattle.op_model.specs.Shares.{Copies}
 use Rattle.cpu_cache.specs.Processors.{ProcView}
 use Rattle.dir_header.specs.HomeSides.{HomeView, header_at, with_header, relisted, unlisted}
 use Rattle.node_share.specs.Parts.{share_of, row_at, AreCopies}
-use Rattle.node_share.proofs.Homes.{Puts, puts-once, puts-then}
-use Rattle.node_share.proofs.Rows.{header-row}
+use Rattle.node_share.proofs.Public.{Puts, header-row, puts-once, puts-then}
 
 module _ {D : Type 0} (home : HomeView D) (line : ℕ) where
   abbrev h : Header

@@ -18,9 +18,7 @@ use Rattle.cpu_cache.specs.Processors.{ProcView}
 use Rattle.dir_header.specs.HomeSides.{HomeView, header_at, with_header, relisted, unlisted, made_pending, room_in}
 use Rattle.msg_words.specs.SendList.{SendList}
 use Rattle.node_share.specs.Parts.{share_of, AreCopies, DoesRow, sent}
-use Rattle.node_share.proofs.Copies.{copy-kept}
-use Rattle.node_share.proofs.Homes.{Puts, puts-once, puts-then, puts-read}
-use Rattle.node_share.proofs.Rows.{home-row}
+use Rattle.node_share.proofs.Public.{Puts, copy-kept, home-row, puts-once, puts-read, puts-then}
 
 module _ {D : Type 0} (home : HomeView D) (cache : CacheView) (src line : ℕ) (out : SendList) where
   abbrev h : Header

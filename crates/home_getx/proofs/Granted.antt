@@ -20,7 +20,7 @@ use Rattle.op_model.specs.Tables.Remote.{waits_write, is_invalidate}
 use Rattle.op_model.specs.OwnPart.{IsOwnPart, IsOwnWait, IsOutstanding}
 use Rattle.op_model.specs.Shares.{line_share, copy_of, header_of, is_set_empty}
 use Rattle.op_model.specs.Programs.{IsProgramOf}
-use Rattle.op_model.proofs.Shares.{write-outstanding, want-stays}
+use Rattle.op_model.proofs.Public.{want-stays, write-outstanding}
 use Rattle.cpu_cache.specs.Effects.{effect_of, nothing, own_effect}
 use Rattle.cpu_cache.specs.declared.effects.Effect.{Effect}
 use Rattle.cpu_cache.specs.Caches.{CacheView, with_copy, is_set_taken}
@@ -28,10 +28,9 @@ use Rattle.cpu_cache.specs.Processors.{ProcView}
 use Rattle.dir_header.specs.HomeSides.{HomeView, header_at, with_header, relisted, unlisted}
 use Rattle.msg_words.specs.SendList.{SendList}
 use Rattle.node_share.specs.Parts.{share_of, row_at, AreCopies, DoesRow, sent, copy_done}
-use Rattle.node_share.proofs.Copies.{copy-kept}
-use Rattle.node_share.proofs.Homes.{Puts, puts-once, puts-then, puts-as}
-use Rattle.node_share.proofs.Rows.{own-row, own-outcome, own-done}
-use Rattle.node_share.proofs.Wants.{sent-none, effect-none, effect-own, on-line, want-is, want-gone, write-is, done-write, set-untaken, set-unserved}
+use Rattle.node_share.proofs.Public.{Puts, copy-kept, done-write, effect-none, effect-own, on-line, own-done}
+use Rattle.node_share.proofs.Public.{own-outcome, own-row, puts-as, puts-once, puts-then, sent-none}
+use Rattle.node_share.proofs.Public.{set-unserved, set-untaken, want-gone, want-is, write-is}
 
 pub last-one : (acks : ℕ) → acks ≤ 1 → acks - 1 ≡ 0
 last-one acks few = omega arith

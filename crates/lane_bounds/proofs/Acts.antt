@@ -12,11 +12,10 @@ use Rattle.op_model.specs.Lines.{Outcome}
 use Rattle.op_model.specs.Messages.{Content, class_of, message, msg_content-message, same_class}
 use Rattle.op_model.specs.Shares.{Lanes, State, Trace, header_of, line_share, program, put_share, share_at}
 use Rattle.op_model.specs.Tables.Processor.{call_in}
-use Rattle.op_model.proofs.Plain.{eqb-self}
-use Rattle.op_model.proofs.Shares.{same_class-is}
+use Rattle.op_model.proofs.Public.{eqb-self, same_class-is}
 use Rattle.line_invariant.specs.Line.{addressed}
-use Rattle.one_history.proofs.Events.{header-kept}
-use Rattle.one_history.proofs.Shares as shares
+use Rattle.one_history.proofs.Public.{header-kept}
+use Rattle.one_history.proofs.Public as shares
 
 -- messages of one line
 abbrev pub tag : ℕ → List Content → List Msg

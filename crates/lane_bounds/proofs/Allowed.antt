@@ -16,7 +16,7 @@ use Rattle.op_model.specs.declared.events.EvictKind.{EvictKind}
 use Rattle.op_model.specs.declared.operations.Op.{Op}
 use Rattle.op_model.specs.declared.state.Want.{Want}
 use Rattle.line_invariant.specs.Types.{Grantee, Me, Nobody, Node}
-use Rattle.line_invariant.proofs.Basics.{if-either}
+use Rattle.line_invariant.proofs.Public.{if-either}
 
 -- the links that a list holds
 abbrev links : Nodes → ℕ

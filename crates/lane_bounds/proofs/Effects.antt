@@ -23,13 +23,11 @@ use Rattle.op_model.specs.Shares.{Charge, Lanes, Share, State, Trace, conflicts,
 use Rattle.op_model.specs.Tables.Home.{wants_victim}
 use Rattle.op_model.specs.Tables.Processor.{begin_op, call_in, evict, hit, holds_link, reclaim, serves}
 use Rattle.op_model.specs.Tables.Remote.{asks_well, meets, on_message}
-use Rattle.op_model.proofs.Plain.{three_parts}
-use Rattle.line_invariant.proofs.Away.{away-begin, away-evict}
-use Rattle.line_invariant.proofs.Basics.{if-either}
+use Rattle.op_model.proofs.Public.{three_parts}
+use Rattle.line_invariant.proofs.Public.{away-begin, away-evict, if-either}
 use Rattle.one_history.specs.Sound.{IsNextOp, IsSound}
-use Rattle.one_history.proofs.Events.{hit-away, message-own}
-use Rattle.one_history.proofs.Owns.{IsOwn, at-home, call-past, none-dropped, own-ok, own-past, own-row}
-use Rattle.one_history.proofs.RowMet.{sound-meets}
+use Rattle.one_history.proofs.Public.{IsOwn, at-home, call-past, hit-away, message-own, none-dropped, own-ok}
+use Rattle.one_history.proofs.Public.{own-past, own-row, sound-meets}
 use Rattle.lane_bounds.proofs.Acts.{Act, after_act, after_row_of, just, next_op, one-taken, row-same, taken_of}
 
 -- the row of a message that says this of a line, by the home's header

@@ -17,11 +17,10 @@ use Rattle.op_model.specs.declared.events.Class.{Class}
 use Rattle.op_model.specs.declared.events.Event.{Event}
 use Rattle.op_model.specs.declared.events.EvictKind.{EvictKind}
 use Rattle.op_model.specs.declared.messages.Msg.{Msg}
-use Rattle.op_model.proofs.Plain.{eqb-self, three_parts, last_of_four}
+use Rattle.op_model.proofs.Public.{eqb-self, last_of_four, three_parts}
 use Rattle.one_history.specs.Project.{line_words, of_line, project}
 use Rattle.one_history.specs.Sound.{IsSound, answered_of}
-use Rattle.one_history.proofs.Events.{refuses}
-use Rattle.one_history.proofs.Shares.{of_line-front}
+use Rattle.one_history.proofs.Public.{of_line-front, refuses}
 use Rattle.lane_bounds.proofs.Acts.{Act, after_act, after_row_of, just, taken_of}
 use Rattle.lane_bounds.proofs.Allowed.{IsAllowed, begin-allowed, evict-allowed, hit-allowed, message-allowed, reclaim-allowed}
 use Rattle.lane_bounds.proofs.Effects.{IsEach, asks_victim, each-event, is_fit, is_gated, row_at}

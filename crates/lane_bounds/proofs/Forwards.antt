@@ -5,9 +5,8 @@ use Rattle.op_model.specs.declared.events.Class.TheVariants.{Reply, Request}
 use Rattle.op_model.specs.declared.events.Class.{Class}
 use Rattle.line_invariant.specs.Good.{Asked, IsGood, IsGoodHeader, ToGive}
 use Rattle.line_invariant.specs.Line.{Line}
-use Rattle.line_invariant.proofs.ForwardNodes.{asked-phase}
-use Rattle.line_invariant.proofs.Fronts.{answer-comes, fwd-first, fwdx-first, request-away}
-use Rattle.line_invariant.proofs.RemoteRows.{answered}
+use Rattle.line_invariant.proofs.Public.{answer-comes, answered, asked-phase, fwd-first, fwdx-first}
+use Rattle.line_invariant.proofs.Public.{request-away}
 use Rattle.lane_bounds.proofs.Sends.{IsForAnother}
 
 module _ (home : ℕ) (line : Line) (good : IsGood home line) (p : ℕ) (apart : p ≢ home) (src : ℕ) (rest : List Content) where

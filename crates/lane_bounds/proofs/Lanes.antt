@@ -9,10 +9,10 @@ use Rattle.op_model.specs.Messages.{Content, message, msg_content, msg_content-m
 use Rattle.op_model.specs.Shares.{Lanes}
 use Rattle.op_model.specs.declared.events.Class.{Class}
 use Rattle.op_model.specs.declared.messages.Msg.{Msg}
-use Rattle.op_model.proofs.Shares.{same_class-is}
+use Rattle.op_model.proofs.Public.{same_class-is}
 use Rattle.line_invariant.specs.Line.{addressed}
 use Rattle.one_history.specs.Project.{of_line}
-use Rattle.one_history.proofs.Shares.{of_line-append, of_line-behind, of_line-front}
+use Rattle.one_history.proofs.Public.{of_line-append, of_line-behind, of_line-front}
 use Rattle.lane_bounds.proofs.Acts.{sent_of, tag, taken_of}
 use Rattle.lane_bounds.proofs.Sums.{contents-cons, weighed, weighed-cons}
 

@@ -14,3 +14,4 @@ pub mod Spelled
 pub mod Counts
 pub mod OwnLanes
 pub mod Ways
+pub mod Public

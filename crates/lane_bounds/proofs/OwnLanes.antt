@@ -12,14 +12,14 @@ use Rattle.op_model.specs.declared.events.Class.TheVariants.{Reply, Request}
 use Rattle.op_model.specs.declared.events.Class.{Class}
 use Rattle.op_model.specs.declared.events.Event.{Event}
 use Rattle.op_model.specs.declared.messages.Msg.{Msg}
-use Rattle.op_model.proofs.Plain.{eqb-self}
+use Rattle.op_model.proofs.Public.{eqb-self}
 use Rattle.line_invariant.specs.Good.{Answered, Asked, Called, Carrier, Clean, HandedOn, HomeOwns, IsAskedBy, IsGood, IsGoodHeader, IsHomeCarrier, IsRefusal, Owned, Phase, Resting, SharedOut, answer_part, asking_part, leaving_part, reply_part}
 use Rattle.line_invariant.specs.Line.{Line}
 use Rattle.line_invariant.specs.Types.{Me, Nobody, Node}
-use Rattle.line_invariant.proofs.Fronts.{silent-home}
+use Rattle.line_invariant.proofs.Public.{silent-home}
 use Rattle.one_history.specs.Project.{line_words, of_line, project}
 use Rattle.one_history.specs.Sound.{IsSound, answered_of}
-use Rattle.one_history.proofs.Shares.{of_line-front}
+use Rattle.one_history.proofs.Public.{of_line-front}
 use Rattle.lane_bounds.proofs.Kept.{IsBounded}
 use Rattle.lane_bounds.proofs.Runs.{bounded-run}
 

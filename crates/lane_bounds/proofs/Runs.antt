@@ -17,8 +17,7 @@ use Rattle.op_model.specs.Shares.{Charge, Trace, first_header, first_headers, he
 use Rattle.op_model.specs.declared.events.Cause.{Cause}
 use Rattle.op_model.specs.declared.events.Event.{Event}
 use Rattle.one_history.specs.Sound.{IsSound}
-use Rattle.one_history.proofs.Events.{keeps-event}
-use Rattle.one_history.proofs.Runs.{sound-start}
+use Rattle.one_history.proofs.Public.{keeps-event, sound-start}
 use Rattle.lane_bounds.proofs.Events.{bounded-event}
 use Rattle.lane_bounds.proofs.Homes.{one_if}
 use Rattle.lane_bounds.proofs.Kept.{IsBounded, held-within}

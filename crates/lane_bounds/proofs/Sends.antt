@@ -20,7 +20,7 @@ use Rattle.op_model.specs.declared.operations.Op.{Op}
 use Rattle.op_model.specs.declared.state.Want.{Want}
 use Rattle.line_invariant.specs.Line.{addressed}
 use Rattle.line_invariant.specs.Types.{Gone, Grantee, Me, Nobody, Node}
-use Rattle.line_invariant.proofs.Basics.{if-either}
+use Rattle.line_invariant.proofs.Public.{if-either}
 
 -- no write-back and no hint is sent
 abbrev pub Quiet : Outcome → Type 0

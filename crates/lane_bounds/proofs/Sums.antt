@@ -13,7 +13,7 @@ use Rattle.std.specs.FinMap.Entries.{below_all}
 use Rattle.op_model.specs.declared.messages.Msg.{Msg}
 use Rattle.op_model.specs.Messages.{Content, msg_content, msg_line}
 use Rattle.one_history.specs.Project.{of_line}
-use Rattle.one_history.proofs.Shares.{of_line-behind, of_line-front}
+use Rattle.one_history.proofs.Public.{of_line-behind, of_line-front}
 
 abbrev pub amount : {X : Type 0} → (X → ℕ) → Option X → ℕ
 amount f None = 0

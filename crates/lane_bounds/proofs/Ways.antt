@@ -18,8 +18,7 @@ use Rattle.line_invariant.specs.Good.{Acked, Answered, Asking, AskingX, Carrier,
 use Rattle.line_invariant.specs.Line.{Line}
 use Rattle.one_history.specs.Project.{line_words, of_line, project}
 use Rattle.one_history.specs.Sound.{IsSound, answered_of}
-use Rattle.one_history.proofs.Runs.{sound-from, sound-start}
-use Rattle.one_history.proofs.Shares.{of_line-front}
+use Rattle.one_history.proofs.Public.{of_line-front, sound-from, sound-start}
 use Rattle.lane_bounds.specs.Ways.{IsOnWay, IsWay}
 use Rattle.lane_bounds.proofs.Spelled.{carried-of}
 

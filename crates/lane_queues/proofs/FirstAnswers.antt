@@ -5,7 +5,7 @@ use Rattle.line_map.specs.Sizes.{Sizes}
 use Rattle.op_model.specs.declared.events.Class.{Class}
 use Rattle.op_model.specs.Shares.{Lanes}
 use Rattle.op_model.specs.Run.Schedules.{Lane, first_busy_in, next_busy_in}
-use Rattle.op_model.proofs.Shares.{no_message-empty}
+use Rattle.op_model.proofs.Public.{no_message-empty}
 use Rattle.lane_queues.specs.LaneStates.{AreEmpty}
 use Rattle.lane_queues.specs.FirstBusy.{lane_named, busy_in, behind, AnswersFirst}
 use Rattle.lane_queues.specs.Queues.{Queues, lane_in, meaning_of}

@@ -18,3 +18,4 @@ pub mod Masks
 pub mod FirstAnswers
 pub mod Listed
 pub mod NextLanes
+pub mod Public

@@ -10,7 +10,7 @@ use Rattle.atomic_table.specs.Table.{Final, Seen}
 use Rattle.op_model.specs.Run.Weight.{total}
 use Rattle.op_model.specs.Parts.Part.{Part}
 use Rattle.op_model.specs.Parts.Journal.{drawn}
-use Rattle.op_model.proofs.Plain.{total-zero, total-add, total-alike}
+use Rattle.op_model.proofs.Public.{total-add, total-alike, total-zero}
 use Rattle.lane_table.specs.Setups.{Setup}
 use Rattle.lane_table.specs.Rule.{NotIn, Holds, IsKept}
 use Rattle.lane_table.specs.Ends.{IsEnded}

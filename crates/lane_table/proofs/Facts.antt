@@ -2,7 +2,7 @@
 use Rattle.std.proofs.Common.{◌≡◌, ◌≢◌, inr, ℕ, ◌+◌, ◌-◌, ◌<◌, ◌≤◌, true, List, [], ◌∷◌, drop, length, sym, ap, ◌∙◌, subst, arith, All, Some, drop-drop, length-drop}
 use Rattle.std.proofs.lemmas.List.Elements.{All-head, All-drop}
 use Rattle.line_map.specs.Sizes.{Sizes}
-use Rattle.line_map.proofs.Sizable.{some-words}
+use Rattle.line_map.proofs.Public.{some-words}
 use Rattle.op_model.specs.declared.events.Class.{Class}
 use Rattle.op_model.specs.Messages.{msg_class}
 use Rattle.op_model.specs.MessageWords.{IsMsgOf}
@@ -11,12 +11,10 @@ use Rattle.op_model.specs.Events.Node.{meets_row}
 use Rattle.op_model.specs.Run.Runs.{Past, run}
 use Rattle.node_range.specs.Range.{IsOfMachine}
 use Rattle.op_model.specs.Parts.Part.{Part, sent_to, flushed_to, taken_from}
-use Rattle.one_history.proofs.RowMet.{front_meets}
-use Rattle.lane_bounds.proofs.Counts.{bounded_lanes}
-use Rattle.lane_bounds.proofs.Ways.{lane_class}
-use Rattle.lane_bounds.proofs.OwnLanes.{own_lane}
-use Rattle.message_range.proofs.Runs.{messages_of_machine}
-use Rattle.node_range.proofs.Events.{ranged_lanes}
+use Rattle.one_history.proofs.Public.{front_meets}
+use Rattle.lane_bounds.proofs.Public.{bounded_lanes, lane_class, own_lane}
+use Rattle.message_range.proofs.Public.{messages_of_machine}
+use Rattle.node_range.proofs.Public.{ranged_lanes}
 use Rattle.lane_table.specs.Setups.{Setup}
 use Rattle.lane_table.specs.Rule.{IsTable}
 use Rattle.lane_table.specs.Told.{unflushed, IsReached, IsOutgoing, Fronts}

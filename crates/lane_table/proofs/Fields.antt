@@ -7,7 +7,7 @@ use Rattle.op_model.specs.declared.events.Class.TheVariants.{Request, Reply}
 use Rattle.op_model.specs.Messages.{same_class}
 use Rattle.op_model.specs.Events.Step.{put_at}
 use Rattle.op_model.specs.Parts.Part.{ByLane, at_lane, put_lane, Part}
-use Rattle.op_model.proofs.Shares.{same_class-self, same_class-is}
+use Rattle.op_model.proofs.Public.{same_class-is, same_class-self}
 use Rattle.lane_table.specs.Calls.{IsOtherLane}
 
 pub put_here : {A : Type 0} (parts : ℕ → A) (n m : ℕ) (q : A) → m ≡ n → put_at parts n q m ≡ q

@@ -13,7 +13,7 @@ use Rattle.op_model.specs.Events.Step.{put_at}
 use Rattle.op_model.specs.Run.Weight.{total}
 use Rattle.op_model.specs.Parts.Part.{Part}
 use Rattle.op_model.specs.Parts.Journal.{drawn, Agrees, IsJournal}
-use Rattle.node_parts.proofs.Composed.{core, compose_same}
+use Rattle.node_parts.proofs.Public.{compose_same, core}
 use Rattle.lane_table.specs.Setups.{Setup}
 use Rattle.lane_table.specs.Layout.{cell_word}
 use Rattle.lane_table.specs.Cells.{LaneView, lane_view, AreCounts, Stand, IsCell, IsUnused}

@@ -17,3 +17,4 @@ pub mod Outboxes
 pub mod SmallRun
 pub mod Opening
 pub mod Ending
+pub mod Public

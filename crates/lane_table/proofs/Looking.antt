@@ -8,7 +8,7 @@ use Rattle.op_model.specs.Operations.{Words}
 use Rattle.op_model.specs.Messages.{msg_content}
 use Rattle.op_model.specs.MessageWords.{has_words, from_words}
 use Rattle.op_model.specs.Parts.Part.{Part, Note, ByLane, put_lane, in_note}
-use Rattle.msg_words.proofs.Named.{names, named, none_has}
+use Rattle.msg_words.proofs.Public.{named, names, none_has}
 use Rattle.lane_table.specs.Steps.{loaded, looked_in}
 use Rattle.lane_table.specs.Told.{IsHeader}
 use Rattle.lane_table.specs.Calls.{NotesIn, Finds}

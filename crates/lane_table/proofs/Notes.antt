@@ -8,7 +8,7 @@ use Rattle.op_model.specs.declared.messages.Msg.{Msg}
 use Rattle.op_model.specs.Operations.{Words}
 use Rattle.op_model.specs.MessageWords.{header_word, from_words}
 use Rattle.op_model.specs.Parts.Part.{Part, ByLane, Note, no_note, at_lane, put_lane, sent_to, flushed_to, taken_from, cleared_from, out_note, in_note, named}
-use Rattle.msg_words.proofs.Named.{names}
+use Rattle.msg_words.proofs.Public.{names}
 use Rattle.lane_table.specs.Setups.{Setup}
 use Rattle.lane_table.specs.Steps.{loaded, with_word, done_with, looked_in, read_in, looked_out, stored_out, posted}
 use Rattle.lane_table.specs.Calls.{IsOtherLane, ChangesNote, NotesIn, NotesOut, Finds, Gives, Flushes}

@@ -7,7 +7,7 @@ use Rattle.op_model.specs.Shares.{Linked}
 use Rattle.op_model.specs.Programs.{programs_of}
 use Rattle.op_model.specs.Parts.Part.{Part}
 use Rattle.op_model.specs.Parts.OwnStep.{own_step}
-use Rattle.node_parts.proofs.OwnChange.{own_change}
+use Rattle.node_parts.proofs.Public.{own_change}
 use Rattle.lane_table.specs.Rule.{IsPartOf}
 use Rattle.lane_table.specs.Steps.{ticketed}
 use Rattle.lane_table.specs.Views.{TableView, SeatView, SeatsView, IsSeatOf, AreSeatsOf, first_of, HasOne, heads, tails}

@@ -11,8 +11,8 @@ use Rattle.op_model.specs.declared.operations.Op.{Op}
 use Rattle.op_model.specs.Programs.{ArePrograms, programs_of}
 use Rattle.op_model.specs.Run.Runs.{start}
 use Rattle.op_model.specs.Parts.Part.{Part, part_at_start, parts_at_start}
-use Rattle.node_parts.proofs.Journal.{journal-start}
-use Rattle.op_model.proofs.Plain.{total-zero}
+use Rattle.node_parts.proofs.Public.{journal-start}
+use Rattle.op_model.proofs.Public.{total-zero}
 use Rattle.lane_table.specs.Layout.{cell_word, word_count}
 use Rattle.lane_table.specs.Setups.{Setup}
 use Rattle.lane_table.specs.Rule.{IsTable, NotIn, IsIn, Holds, IsKept, IsPartOf, parts_from}

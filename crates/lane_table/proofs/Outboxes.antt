@@ -14,8 +14,8 @@ use Rattle.op_model.specs.MessageWords.{IsMsgOf}
 use Rattle.op_model.specs.Events.Step.{to_lane, is_departure}
 use Rattle.op_model.specs.Run.Bounds.{lane_bound}
 use Rattle.op_model.specs.Parts.Part.{Part, sent_to, flushed_to, at_lane, last_departs, departs_at}
-use Rattle.one_history.proofs.Owns.{to_lane-append}
-use Rattle.op_model.proofs.Shares.{same_class-self, same_class-is}
+use Rattle.one_history.proofs.Public.{to_lane-append}
+use Rattle.op_model.proofs.Public.{same_class-is, same_class-self}
 use Rattle.out_space.specs.Boxes.{BoxState, IsBox, waiting, with_waiting, waiting-with_waiting}
 use Rattle.lane_table.specs.Told.{unflushed, IsOutgoing}
 use Rattle.lane_table.specs.Calls.{Flushes}

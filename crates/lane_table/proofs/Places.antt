@@ -3,10 +3,10 @@ use Rattle.std.proofs.Common.{◌≡◌, ℕ, suc, ◌+◌, ◌*◌, ◌/◌, �
 use Rattle.std.proofs.Math.Nat.{mul-le-mul_right}
 use Rattle.std.proofs.lemmas.Nat.{div-mul-add, mod-mul-add, mul-le}
 use Rattle.line_map.specs.Sizes.{Sizes, AreSizes}
-use Rattle.line_map.proofs.Sizable.{few-nodes}
+use Rattle.line_map.proofs.Public.{few-nodes}
 use Rattle.op_model.specs.declared.events.Class.{Class}
 use Rattle.lane_queues.specs.Queues.{lane_number, lane_count}
-use Rattle.lane_queues.proofs.LaneNumbers.{lane_number-lt, lane_number-one, same_lane-is}
+use Rattle.lane_queues.proofs.Public.{lane_number-lt, lane_number-one, same_lane-is}
 use Rattle.lane_table.specs.Layout.{cell_word, word_count}
 
 pub one_place : (sizes : Sizes) (a b : ℕ) (c : Class) (i a' b' : ℕ) (c' : Class) (j : ℕ) → b < sizes.nodes → b' < sizes.nodes → i ≤ sizes.words → j ≤ sizes.words

@@ -12,7 +12,7 @@ use Rattle.op_model.specs.Run.Runs.{run, run_by, start}
 use Rattle.op_model.specs.Shares.{Trace, Linked, program}
 use Rattle.node_range.specs.Range.{IsOfMachine}
 use Rattle.node_range.specs.Traces.{AreProgramsIn}
-use Rattle.node_range.proofs.Traces.{turn_of, turn-programs, turn-in}
+use Rattle.node_range.proofs.Public.{turn-in, turn-programs, turn_of}
 use Rattle.lane_table.specs.Setups.{Setup, run_in}
 
 programs_in : (sizes : Sizes) (programs : List (List Op)) → ArePrograms sizes programs → AreProgramsIn sizes (programs_of programs)

@@ -4,15 +4,13 @@ use Rattle.std.specs.Prelude.{◌||◌, slice_index}
 use Rattle.std.proofs.lemmas.List.{ext_get_or}
 use Rattle.std.proofs.lemmas.Option.{same_Some}
 use Rattle.line_map.specs.Sizes.{Sizes, AreSizes}
-use Rattle.line_map.proofs.Sizable.{few-nodes}
+use Rattle.line_map.proofs.Public.{few-nodes}
 use Rattle.op_model.specs.Operations.{Words}
 use Rattle.op_model.specs.declared.messages.Msg.{Msg}
 use Rattle.op_model.specs.Messages.{Content, Get, GetX, FwdGet, FwdGetX, Inv, Wb, Rpl, Put, PutX, Nak, InvAck, ShWb, FAck, Nakc, msg_line, msg_content}
 use Rattle.op_model.specs.MessageWords.{kind_of, argument_of, has_words, words_behind, header_word, from_words, IsMsgOf}
 use Rattle.msg_words.specs.Named.{IsBehind}
-use Rattle.msg_words.proofs.Fields.{kind_again, kind-small, argument-small}
-use Rattle.msg_words.proofs.Contents.{width}
-use Rattle.msg_words.proofs.Named.{names, named}
+use Rattle.msg_words.proofs.Public.{argument-small, kind-small, kind_again, named, names, width}
 
 abbrev kind_has_words : ℕ → Bool
 kind_has_words kind = (kind == 6) || ((kind == 8) || ((kind == 9) || (kind == 12)))

@@ -12,7 +12,7 @@ use Rattle.op_model.specs.declared.messages.Msg.{Msg}
 use Rattle.op_model.specs.Messages.{msg_content}
 use Rattle.op_model.specs.MessageWords.{header_word, words_behind, IsMsgOf}
 use Rattle.op_model.specs.Parts.Part.{Note, notes_empty}
-use Rattle.msg_words.proofs.Named.{word_above}
+use Rattle.msg_words.proofs.Public.{word_above}
 use Rattle.lane_table.specs.Layout.{cell_word}
 use Rattle.lane_table.specs.Cells.{LaneView, AreCounts, Stand, IsCell}
 use Rattle.lane_table.specs.Steps.{with_word, done_with}

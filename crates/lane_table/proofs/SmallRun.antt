@@ -26,8 +26,8 @@ use Rattle.op_model.specs.Messages.{Content, Get, GetX, FwdGet, FwdGetX, Inv, Wb
 use Rattle.op_model.specs.Events.Step.{to_lane}
 use Rattle.op_model.specs.Parts.Part.{Part, Note, ByLane, no_note, at_lane, put_lane, part_at_start, taken_from, cleared_from, in_note, named, logged}
 use Rattle.op_model.specs.Parts.OwnStep.{own_step, after_outcome}
-use Rattle.row_examples.proofs.Maps.{entries-empty, entries-put, get-none, get-put}
-use Rattle.node_parts.proofs.OwnChange.{own_issue, own_take}
+use Rattle.row_examples.proofs.Public.{entries-empty, entries-put, get-none, get-put}
+use Rattle.node_parts.proofs.Public.{own_issue, own_take}
 use Rattle.lane_table.specs.Steps.{looked_in, freed}
 use Rattle.lane_table.specs.Told.{unflushed}
 use Rattle.lane_table.specs.Calls.{Finds, Flushes}

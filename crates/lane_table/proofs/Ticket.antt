@@ -5,7 +5,7 @@ use Rattle.std.proofs.lemmas.Bool.{eqb-true, and_parts, cases_lt}
 use Rattle.std.proofs.lemmas.List.{get_or-set_same, get_or-set_other, drop-append-le}
 use Rattle.std.proofs.Math.Nat.{mul-le-mul_right}
 use Rattle.line_map.specs.Sizes.{Sizes}
-use Rattle.line_map.proofs.Sizable.{few-nodes}
+use Rattle.line_map.proofs.Public.{few-nodes}
 use Rattle.op_model.specs.declared.events.Class.{Class}
 use Rattle.op_model.specs.declared.events.Class.TheVariants.{Request}
 use Rattle.op_model.specs.declared.events.Event.{Event}
@@ -18,10 +18,8 @@ use Rattle.op_model.specs.Events.Step.{Programs, put_at, to_lane}
 use Rattle.op_model.specs.Parts.Part.{Part, Note, no_note, at_lane, sent_to, flushed_to, taken_from, cleared_from, out_note, in_note, notes_empty, notes_full, logged}
 use Rattle.op_model.specs.Parts.OwnStep.{own_step}
 use Rattle.op_model.specs.Parts.Composition.{IsReady, IsOwnChange}
-use Rattle.one_history.proofs.Owns.{to_lane-append}
-use Rattle.node_parts.proofs.Basics.{some_when}
-use Rattle.node_parts.proofs.OwnChange.{own_change}
-use Rattle.node_parts.proofs.Journal.{ticket_drawn, total-put}
+use Rattle.one_history.proofs.Public.{to_lane-append}
+use Rattle.node_parts.proofs.Public.{own_change, some_when, ticket_drawn, total-put}
 use Rattle.lane_table.specs.Setups.{Setup}
 use Rattle.lane_table.specs.Layout.{cell_word}
 use Rattle.lane_table.specs.Cells.{LaneView, lane_view, AreCounts, Stand, IsCell}

@@ -8,7 +8,7 @@ use Rattle.op_model.specs.Operations.{Words, after_op}
 use Rattle.op_model.specs.Messages.{Content, InvAck, PutX}
 use Rattle.op_model.specs.Lines.{Copy, Absent, Shared, Exclusive, Room, sending, no_message}
 use Rattle.op_model.specs.Tables.Home.{on_inv_ack, grant, grantee_of}
-use Rattle.op_model.proofs.Plain.{eqb-self}
+use Rattle.op_model.proofs.Public.{eqb-self}
 use Rattle.line_invariant.specs.Line.{Line, share_of, after_row, after_take, taken}
 use Rattle.line_invariant.specs.Good.{is_put, Status, Resting, Granted, Duty, NoDuty, Acked, Phase, Clean, HomeOwns, Owned, Called, Asked, SharedOut, HandedOn, Recalled, Bare, ByGrant, role_in, IsGoodNode, IsGood, IsGoodHeader, IsGoodHome, IsOnDuty, IsCarried, answer_part, IsGrantee, IsFreshCopy, IsSharedOnly, Answered}
 use Rattle.line_invariant.specs.Rows.{wanting}

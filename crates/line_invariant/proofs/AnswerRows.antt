@@ -11,7 +11,7 @@ use Rattle.op_model.specs.Messages.{Content, Put, PutX, Nak}
 use Rattle.op_model.specs.Lines.{Shared, Exclusive, NoService, Own, no_message}
 use Rattle.op_model.specs.Tables.Remote.{on_nak}
 use Rattle.op_model.specs.Events.Step.{put_at}
-use Rattle.op_model.proofs.Plain.{eqb-self}
+use Rattle.op_model.proofs.Public.{eqb-self}
 use Rattle.line_invariant.specs.Line.{Lanes, Line, share_of, after_row, sent, taken}
 use Rattle.line_invariant.specs.Good.{is_put, Status, Carrier, Resting, Answered, NoDuty, Phase, Clean, HomeOwns, Owned, Called, Asked, SharedOut, HandedOn, Bare, Usual, reply_part, expected, IsGoodNode, IsGood, IsHomeCarrier, IsAskedBy}
 use Rattle.line_invariant.specs.Rows.{wanting}

@@ -11,7 +11,7 @@ use Rattle.op_model.specs.Messages.{Content}
 use Rattle.op_model.specs.Lines.{Copy, no_message}
 use Rattle.op_model.specs.Tables.Home.{on_shwb, on_fack, on_nakc, requester_of}
 use Rattle.op_model.specs.Events.Step.{put_at}
-use Rattle.op_model.proofs.Plain.{eqb-self}
+use Rattle.op_model.proofs.Public.{eqb-self}
 use Rattle.line_invariant.specs.Line.{Lanes, Line, share_of, after_row, sent, taken}
 use Rattle.line_invariant.specs.Good.{Status, Carrier, Resting, Duty, NoDuty, ToGive, Returned, Handed, Refused, Phase, Clean, HomeOwns, Owned, Called, Asked, SharedOut, HandedOn, MayShare, Bare, Holds, Usual, ByForward, asked_role, asked_list, told_part, answer_part, expected, role_in, IsGoodNode, IsGood, IsGoodHeader, IsGoodHome, IsOnDuty, IsAskedBy}
 use Rattle.line_invariant.proofs.ForwardNodes.{node-bare-shares}

@@ -10,7 +10,7 @@ use Rattle.op_model.specs.Operations.{Words}
 use Rattle.op_model.specs.Messages.{Content, Put, PutX, Nak}
 use Rattle.op_model.specs.Lines.{Absent, Shared, Exclusive, For, sending}
 use Rattle.op_model.specs.Tables.Remote.{gone}
-use Rattle.op_model.proofs.Plain.{eqb-self, eqb-swap}
+use Rattle.op_model.proofs.Public.{eqb-self, eqb-swap}
 use Rattle.line_invariant.specs.Line.{Line, share_of, after_row, taken}
 use Rattle.line_invariant.specs.Good.{is_put, Forwarded, Answered, Duty, NoDuty, ToGive, Returned, Handed, Refused, Asked, SharedOut, HandedOn, MayShare, Bare, Usual, ByForward, asked_role, asked_list, told_part, IsGoodNode, IsGood, IsGoodHeader, IsGoodHome}
 use Rattle.line_invariant.proofs.ForwardLanes.{answered_by, backs, lanes-answered}

@@ -7,7 +7,7 @@ use Rattle.line_invariant.specs.Types.{Want, NakCause, Request, Reply, Nobody, M
 use Rattle.op_model.specs.Operations.{Words}
 use Rattle.op_model.specs.Messages.{Content, Get, GetX, FwdGet, FwdGetX, Inv, Wb, Rpl, Put, PutX, Nak, InvAck, ShWb, FAck, Nakc, class_of}
 use Rattle.op_model.specs.Lines.{Copy}
-use Rattle.op_model.proofs.Plain.{eqb-self}
+use Rattle.op_model.proofs.Public.{eqb-self}
 use Rattle.line_invariant.specs.Line.{Line}
 use Rattle.line_invariant.specs.Good.{Carrier, Resting, Asking, AskingX, Answered, Leaving, NotLeaving, WritesBack, Hints, Duty, Told, Acked, ToGive, Returned, Handed, Refused, IsGood, leaving_part, asking_part, told_part, reply_part, answer_part, IsCarried, IsHomeCarrier, IsAskedBy, Phase, Clean, HomeOwns, Owned, Called, Asked, SharedOut, HandedOn}
 

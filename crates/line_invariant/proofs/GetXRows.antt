@@ -9,7 +9,7 @@ use Rattle.op_model.specs.Operations.{Words}
 use Rattle.op_model.specs.Messages.{Content, GetX, PutX}
 use Rattle.op_model.specs.Lines.{Copy, Room, Outcome, is_pending, words_of}
 use Rattle.op_model.specs.Tables.Home.{on_getx, no_other, give_home_copy, give_memory, invalidate_for}
-use Rattle.op_model.proofs.Plain.{eqb-self}
+use Rattle.op_model.proofs.Public.{eqb-self}
 use Rattle.line_invariant.specs.Line.{Line, share_of, after_row, after_take, taken}
 use Rattle.line_invariant.specs.Good.{is_put, Status, AskingX, Granted, Answered, NotLeaving, NoDuty, Told, Clean, HomeOwns, Owned, Called, MayShare, Bare, Holds, Usual, ByGrant, Recalled, IsGoodNode, IsGood, IsGoodHeader, IsGoodHome}
 use Rattle.line_invariant.proofs.Basics.{if-either}

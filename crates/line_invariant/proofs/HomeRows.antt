@@ -9,7 +9,7 @@ use Rattle.op_model.specs.Operations.{Words}
 use Rattle.op_model.specs.Messages.{FwdGet, FwdGetX, Content, Get, Put, Nak}
 use Rattle.op_model.specs.Lines.{Copy, Header, Room, Outcome, sending, one_to, is_pending, is_idle, is_empty, words_of, owner}
 use Rattle.op_model.specs.Tables.Home.{on_get, refuse, lacks_link, share_home_copy, share_memory}
-use Rattle.op_model.proofs.Plain.{eqb-self}
+use Rattle.op_model.proofs.Public.{eqb-self}
 use Rattle.line_invariant.specs.Line.{Line, share_of, after_row, after_take, taken}
 use Rattle.line_invariant.specs.Good.{is_put, Status, Resting, Asking, AskingX, Answered, NotLeaving, NoDuty, Phase, Clean, HomeOwns, Owned, Called, Asked, SharedOut, HandedOn, Bare, Usual, Holds, IsCarried, IsHomeCarrier, asked_list, role_in, IsGoodNode, IsGood, IsGoodHeader, IsGoodHome, Forwarded}
 use Rattle.line_invariant.proofs.Basics.{if-either, owner-only}

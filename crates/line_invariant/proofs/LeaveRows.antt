@@ -11,7 +11,7 @@ use Rattle.op_model.specs.Lines.{Copy, Header, sending, no_message, is_idle, is_
 use Rattle.op_model.specs.Tables.Home.{on_wb, on_rpl}
 use Rattle.op_model.specs.Tables.Remote.{is_invalidate}
 use Rattle.op_model.specs.Events.Step.{put_at}
-use Rattle.op_model.proofs.Plain.{eqb-self}
+use Rattle.op_model.proofs.Public.{eqb-self}
 use Rattle.line_invariant.specs.Line.{Lanes, Line, share_of, after_row, sent, taken}
 use Rattle.line_invariant.specs.Good.{Status, NotLeaving, WritesBack, Hints, Duty, NoDuty, Phase, Clean, HomeOwns, Owned, Called, Asked, SharedOut, HandedOn, Role, MayShare, Bare, Holds, Usual, asking_part, expected, role_in, holds_in, IsGoodNode, IsGood, IsGoodHeader, IsGoodHome}
 use Rattle.line_invariant.proofs.Basics.{if-either}

@@ -26,3 +26,4 @@ pub mod Wants
 pub mod Served
 pub mod Locals
 pub mod Away
+pub mod Public

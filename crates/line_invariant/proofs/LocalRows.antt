@@ -10,7 +10,7 @@ use Rattle.op_model.specs.Operations.{Words, is_load, after_op}
 use Rattle.op_model.specs.Messages.{Get, GetX, Wb, Rpl, FwdGet, FwdGetX}
 use Rattle.op_model.specs.Lines.{Copy, Absent, Shared, Exclusive, sending, no_message, one_to, is_empty, is_pending, nobody_listed, without_shared, words_of, is_idle, owner, begun}
 use Rattle.op_model.specs.Tables.Processor.{serves, ask, load_at_home, write_at_home, invalidate_for_home, fits, leave_remote, leave_home, hit, done_on, call_in}
-use Rattle.op_model.proofs.Plain.{eqb-self}
+use Rattle.op_model.proofs.Public.{eqb-self}
 use Rattle.line_invariant.specs.Line.{Line, share_of, after_row}
 use Rattle.line_invariant.specs.Good.{is_put, Forwarded, Granted, Resting, Asking, AskingX, NotLeaving, WritesBack, Hints, NoDuty, Clean, HomeOwns, Owned, Called, Asked, Holds, Bare, Usual, ToGive, role_in, IsGoodNode, IsGood, IsGoodHeader, IsGoodHome}
 use Rattle.line_invariant.proofs.Basics.{if-either, owner-only}

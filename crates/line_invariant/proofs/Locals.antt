@@ -8,7 +8,7 @@ use Rattle.op_model.specs.Nodes.{listings}
 use Rattle.op_model.specs.Operations.{Words, is_load}
 use Rattle.op_model.specs.Lines.{Copy, Absent, Shared, Exclusive, Header, Room, Outcome, is_pending, is_empty, nobody_listed, words_of}
 use Rattle.op_model.specs.Tables.Processor.{serves, hit, ask, begin_op, begin_at_home, load_at_home, write_at_home, invalidate_for_home, forward_get_home, forward_getx_home, fits, evict, leave_home, leave_remote, reclaim, call_in, holds_link}
-use Rattle.op_model.proofs.Plain.{err-ok}
+use Rattle.op_model.proofs.Public.{err-ok}
 use Rattle.line_invariant.specs.Line.{Line, share_of, after_row}
 use Rattle.line_invariant.specs.Good.{Phase, Clean, HomeOwns, Owned, Called, Asked, SharedOut, HandedOn, IsGood, IsGoodHeader, IsGoodNode, Role, Status}
 use Rattle.line_invariant.specs.Rows.{IsOwnServed, IsOwnWant, IsDoneRight}

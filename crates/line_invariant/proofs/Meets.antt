@@ -10,7 +10,7 @@ use Rattle.op_model.specs.Messages.{Content, Get, GetX, FwdGet, FwdGetX, Inv, Wb
 use Rattle.op_model.specs.Lines.{Absent, Room, LineShare, Outcome, NoService, Own, For, Shared, Exclusive, no_message, sending, is_idle, is_exclusive, is_empty}
 use Rattle.op_model.specs.Tables.Home.{on_get, on_getx, on_inv_ack, on_shwb, on_fack, on_nakc, on_wb, on_rpl}
 use Rattle.op_model.specs.Tables.Remote.{on_message, row_of, meets, on_inv, on_nak, on_put, on_putx, on_fwd_get, on_fwd_getx, gone, asks_well, is_invalidate}
-use Rattle.op_model.proofs.Plain.{eqb-self}
+use Rattle.op_model.proofs.Public.{eqb-self}
 use Rattle.line_invariant.specs.Line.{Line, share_of, after_row, after_take, taken}
 use Rattle.line_invariant.specs.Good.{IsGood, NoDuty, Returned, Handed}
 use Rattle.line_invariant.specs.Rows.{wanting}

@@ -9,7 +9,7 @@ use Rattle.op_model.specs.Operations.{Words, is_load}
 use Rattle.op_model.specs.Messages.{Content, Get, GetX, FwdGet, FwdGetX, Inv, Wb, Rpl, Put, PutX, Nak, InvAck, ShWb, FAck, Nakc}
 use Rattle.op_model.specs.Lines.{Absent, LineShare, is_empty, is_idle}
 use Rattle.op_model.specs.Tables.Remote.{meets, asks_well, is_invalidate}
-use Rattle.op_model.proofs.Plain.{eqb-self}
+use Rattle.op_model.proofs.Public.{eqb-self}
 use Rattle.line_invariant.specs.Line.{Line, share_of}
 use Rattle.line_invariant.specs.Good.{Carrier, Answered, Leaving, Duty, Called, Asked, SharedOut, HandedOn, told_part, reply_part, leaving_part, asking_part, IsGood, IsGoodHeader, IsAnswerTo}
 use Rattle.line_invariant.specs.Rows.{wanting}

@@ -10,7 +10,7 @@ use Rattle.op_model.specs.Messages.{Content, Get, GetX, FwdGet, FwdGetX, Inv, Wb
 use Rattle.op_model.specs.Lines.{Copy, Absent, Exclusive, Header, Room, LineShare, Outcome, NoService, is_exclusive, is_empty, is_idle, is_pending, words_of}
 use Rattle.op_model.specs.Tables.Home.{on_get, on_getx, on_inv_ack, on_shwb, on_fack, on_nakc, on_wb, on_rpl, grant, grantee_of, lacks_link, no_other}
 use Rattle.op_model.specs.Tables.Remote.{on_message, row_of, meets, on_inv, on_nak, on_put, on_putx, on_fwd_get, on_fwd_getx, is_invalidate, waits_write}
-use Rattle.op_model.proofs.Plain.{eqb-self}
+use Rattle.op_model.proofs.Public.{eqb-self}
 use Rattle.line_invariant.specs.Line.{Line, row_taken, share_of}
 use Rattle.line_invariant.specs.Good.{Status, Asking, Forwarded, Answered, Phase, Clean, HomeOwns, IsGood, IsGoodHeader, IsCarried, is_put, Granted, Carrier, Resting, IsGoodHome, Role, IsGoodNode, asked_role, ToGive, Owned, Called, Asked, SharedOut, HandedOn}
 use Rattle.line_invariant.specs.Rows.{EndsRight, IsPut, wanting, IsLoadWanted, IsServedFor}

@@ -8,7 +8,7 @@ use Rattle.op_model.specs.Nodes.{listed}
 use Rattle.op_model.specs.Operations.{Words}
 use Rattle.op_model.specs.Lines.{Copy, Outcome, is_empty}
 use Rattle.op_model.specs.Events.Step.{put_at}
-use Rattle.op_model.proofs.Plain.{eqb-self}
+use Rattle.op_model.proofs.Public.{eqb-self}
 use Rattle.line_invariant.specs.Line.{Line, Lanes, after_row, sent, words_after, answered_after}
 use Rattle.line_invariant.specs.Good.{is_put, Status, Phase, role_in, IsGoodNode, IsGood, IsGoodHeader, IsGoodHome, expected}
 

@@ -9,7 +9,7 @@ use Rattle.op_model.specs.Messages.{Content, Get, GetX, FwdGet, FwdGetX, Inv, Wb
 use Rattle.op_model.specs.Lines.{Copy, Absent, Shared, Exclusive, Room, Outcome, For, sending, is_exclusive}
 use Rattle.op_model.specs.Tables.Home.{on_wb, on_rpl, on_shwb, on_fack, on_nakc}
 use Rattle.op_model.specs.Tables.Remote.{gone, on_nak}
-use Rattle.op_model.proofs.Plain.{eqb-self}
+use Rattle.op_model.proofs.Public.{eqb-self}
 use Rattle.line_invariant.specs.Line.{Line, share_of, after_row, after_take, taken}
 use Rattle.line_invariant.specs.Good.{Carrier, Answered, Leaving, Duty, NoDuty, ToGive, Returned, Handed, Asked, SharedOut, HandedOn, told_part, reply_part, leaving_part, asking_part, asked_role, IsGoodNode, IsGood, IsGoodHeader, IsAnswerTo}
 use Rattle.line_invariant.specs.Rows.{wanting}

@@ -19,14 +19,11 @@ use Rattle.op_model.specs.declared.events.Event.{Event}
 use Rattle.op_model.specs.declared.messages.Msg.{Msg}
 use Rattle.line_invariant.specs.Good.{Asked, Called, Clean, HandedOn, HomeOwns, IsGoodHeader, Owned, Phase, SharedOut}
 use Rattle.line_invariant.specs.Types.{Grantee, Invalidate, Nobody}
-use Rattle.line_invariant.proofs.Basics.{if-either}
+use Rattle.line_invariant.proofs.Public.{if-either}
 use Rattle.one_history.specs.Project.{line_words, of_line, project}
 use Rattle.one_history.specs.Sound.{IsSound}
-use Rattle.one_history.proofs.RowMet.{meets-whole}
-use Rattle.one_history.proofs.Shares.{of_line-front}
-use Rattle.lane_bounds.proofs.Acts.{Act, after_act, taken_of}
-use Rattle.lane_bounds.proofs.Effects.{each-taken, row_at, taking}
-use Rattle.lane_bounds.proofs.Runs.{bounded-run}
+use Rattle.one_history.proofs.Public.{meets-whole, of_line-front}
+use Rattle.lane_bounds.proofs.Public.{Act, after_act, bounded-run, each-taken, row_at, taken_of, taking}
 use Rattle.link_refusals.proofs.Links.{header-at}
 
 -- a line that is called in awaits as many acknowledgements as nodes are listed

@@ -19,14 +19,11 @@ use Rattle.op_model.specs.declared.events.Class.{Class}
 use Rattle.op_model.specs.declared.events.Event.TheVariants.{Take}
 use Rattle.op_model.specs.declared.events.Event.{Event}
 use Rattle.op_model.specs.declared.messages.Msg.{Msg}
-use Rattle.op_model.proofs.Plain.{eqb-self, three_parts, above_one, and_above_one}
+use Rattle.op_model.proofs.Public.{above_one, and_above_one, eqb-self, three_parts}
 use Rattle.line_invariant.specs.Types.{NoLink}
-use Rattle.one_history.proofs.Events.{refuses}
-use Rattle.one_history.proofs.Shares.{header-same}
-use Rattle.lane_bounds.proofs.Acts.{after_act, after_row_of, row-kept, taken_of}
-use Rattle.lane_bounds.proofs.Effects.{asks_victim, each-taken, is_fit, row_at}
-use Rattle.lane_bounds.proofs.Kept.{IsBounded}
-use Rattle.lane_bounds.proofs.Runs.{bounded-run}
+use Rattle.one_history.proofs.Public.{header-same, refuses}
+use Rattle.lane_bounds.proofs.Public.{IsBounded, after_act, after_row_of, asks_victim, bounded-run}
+use Rattle.lane_bounds.proofs.Public.{each-taken, is_fit, row-kept, row_at, taken_of}
 use Rattle.link_refusals.specs.Refusals.{IsLinkPending, refuses_link}
 use Rattle.link_refusals.proofs.Entries.{Found, found}
 use Rattle.link_refusals.proofs.Reasons.{IsReason, any-tagged, refuses_row, why-refused}

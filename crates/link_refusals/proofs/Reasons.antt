@@ -13,8 +13,8 @@ use Rattle.op_model.specs.Tables.Remote.{meets, on_fwd_get, on_fwd_getx, on_inv,
 use Rattle.op_model.specs.declared.messages.Msg.{Msg}
 use Rattle.op_model.specs.declared.state.Want.{Want}
 use Rattle.line_invariant.specs.Types.{Grantee, Me, NoLink, Nobody, Node}
-use Rattle.line_invariant.proofs.Basics.{if-either}
-use Rattle.lane_bounds.proofs.Effects.{finds}
+use Rattle.line_invariant.proofs.Public.{if-either}
+use Rattle.lane_bounds.proofs.Public.{finds}
 
 -- a row refuses for want of a link
 abbrev pub refuses_row : Outcome → Bool

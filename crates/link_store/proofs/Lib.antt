@@ -9,3 +9,4 @@ pub mod Taken
 pub mod Loops
 pub mod Homes
 pub mod First
+pub mod Public

@@ -6,7 +6,7 @@ use Rattle.std.proofs.lemmas.Bool.Decides.{nat_tests}
 use Rattle.std.proofs.lemmas.Bool.{cases_lt}
 use Rattle.std.proofs.lemmas.List.{get_or-set_other}
 use Rattle.std.proofs.lemmas.List.Sums.{sum_by-set, get_or-le-sum_by}
-use Rattle.op_model.proofs.Plain.{eqb-self}
+use Rattle.op_model.proofs.Public.{eqb-self}
 use Rattle.link_store.specs.Pools.{Chain, links_of, times_in, times, Pool, chain_of, IsPartition}
 
 pub times_in-append : (x : ℕ) (links more : List ℕ) → times_in x (links ++ more) ≡ times_in x links + times_in x more

@@ -15,13 +15,13 @@ use Rattle.op_model.specs.Events.Step.{Programs, Done, effect, after, to_lane}
 use Rattle.op_model.specs.Run.Runs.{Past, past_after, start, run_by, entries_of, entry_for}
 use Rattle.op_model.specs.Run.Counts.{moments, taken_by}
 use Rattle.message_range.specs.Fitting.{IsSentOf}
-use Rattle.own_part.proofs.Runs.{own_run}
-use Rattle.message_range.proofs.Places.{act-placed}
+use Rattle.own_part.proofs.Public.{own_run}
+use Rattle.message_range.proofs.Public.{act-placed}
 use Rattle.lane_queues.specs.LaneStates.{LaneState}
 use Rattle.msg_words.specs.SendList.{SendList}
 use Rattle.event_tally.specs.Marks.{naks_in, marks_of, marked_up}
 use Rattle.event_tally.specs.Tallies.{tally_of, TellsMarks}
-use Rattle.event_tally.proofs.Tallies.{tally_of-push, tally_of-few}
+use Rattle.event_tally.proofs.Public.{tally_of-few, tally_of-push}
 use Rattle.machine.specs.declared.acts.Act.{Act}
 use Rattle.machine.specs.Kept.{share_or, share_in, state_of, programs_in, charge_in, left_in, AreNodes, moments_in, no_sends, AreLanesOf, IsKept}
 use Rattle.machine.specs.Acts.{sent_from, taken_off, off_of, entries_after, FitsAll, IsRead, IsAct}
@@ -33,7 +33,7 @@ use Rattle.machine.specs.Faces.{Face}
 use Rattle.cpu_cache.specs.Effects.{served_of}
 use Rattle.op_model.specs.Programs.{programs_of}
 use Rattle.machine.proofs.Sent.{sent-in}
-use Rattle.op_model.proofs.Runs.{moment_of, run-push, moments-push, length-moments}
+use Rattle.op_model.proofs.Public.{length-moments, moment_of, moments-push, run-push}
 
 -- no count is above the number of events
 pub counts-few : (sizes : Sizes) (faces : List Face) (lanes : LaneState) (events : List Event) (served : List Entry) (tally : List ℕ) (left : ℕ) (out : SendList) → IsKept sizes faces lanes events served tally left out →

@@ -16,8 +16,7 @@ use Rattle.cpu_cache.specs.declared.effects.Effect.{Effect}
 use Rattle.cpu_cache.specs.Effects.{served_of, entry_at, done_of}
 use Rattle.msg_words.specs.SendList.{SendList}
 use Rattle.message_range.specs.Fitting.{AreOnWords, IsInputOf, IsServedOf, IsShareOf}
-use Rattle.message_range.proofs.Acts.{every-act}
-use Rattle.message_range.proofs.Places.{act-placed}
+use Rattle.message_range.proofs.Public.{act-placed, every-act}
 use Rattle.node_share.specs.Parts.{HasRoom}
 use Rattle.node_share.specs.Effects.{Acts}
 use Rattle.magic_node.specs.declared.acts.LocalEvent.{LocalEvent}

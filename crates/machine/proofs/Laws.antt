@@ -15,9 +15,9 @@ use Rattle.op_model.specs.Shares.{Charge, program}
 use Rattle.op_model.specs.Events.Step.{to_lane}
 use Rattle.op_model.specs.Run.Bounds.{lane_bound}
 use Rattle.op_model.specs.Run.Runs.{Past, start, run, run_by}
-use Rattle.one_history.proofs.RowMet.{front_meets}
+use Rattle.one_history.proofs.Public.{front_meets}
 use Rattle.node_range.specs.Range.{IsOfMachine}
-use Rattle.lane_bounds.proofs.Counts.{bounded_lanes}
+use Rattle.lane_bounds.proofs.Public.{bounded_lanes}
 use Rattle.lane_queues.specs.LaneStates.{LaneState, capacity_of}
 use Rattle.msg_words.specs.SendList.{SendList}
 use Rattle.machine.specs.Kept.{charge_in, programs_in, state_of, AreNodes, AreLanesOf, IsKept}

@@ -14,3 +14,4 @@ pub mod Starts
 pub mod Views
 pub mod Others
 pub mod Drives
+pub mod Public

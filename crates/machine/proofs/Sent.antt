@@ -11,12 +11,11 @@ use Rattle.op_model.specs.MessageWords.{IsMsgOf}
 use Rattle.op_model.specs.Run.Runs.{Past, run}
 use Rattle.op_model.specs.Shares.{Charge, Trace, program}
 use Rattle.node_range.specs.Range.{IsOfMachine, IsRanged}
-use Rattle.node_range.proofs.Events.{ranged-run}
-use Rattle.own_part.proofs.Runs.{own_run}
+use Rattle.node_range.proofs.Public.{ranged-run}
+use Rattle.own_part.proofs.Public.{own_run}
 use Rattle.message_range.specs.Fitting.{IsInputOf, IsInputForOther, IsMsgForOther, IsSentOf}
-use Rattle.message_range.proofs.Acts.{IsActed, every-act}
-use Rattle.message_range.proofs.Events.{IsDone, IsGiven, done-by, filled, program-of}
-use Rattle.message_range.proofs.Runs.{messages_of_machine, messages_for_others, share-fits}
+use Rattle.message_range.proofs.Public.{IsActed, IsDone, IsGiven, done-by, every-act, filled}
+use Rattle.message_range.proofs.Public.{messages_for_others, messages_of_machine, program-of, share-fits}
 
 module _ (charge : Charge) (trace : Trace) (all : IsOfMachine trace) (are : AreSizes trace.sizes) (events : List Event) (past : Past) (ran : run charge trace events ≡ Some past) (event : Event) (d : Done)
     (does : effect charge trace.sizes (program trace) past.state event ≡ Ok d) (at : d.node < trace.sizes.nodes) where

@@ -18,7 +18,7 @@ use Rattle.op_model.specs.Tables.Processor.{serves, hit, begin_op, begin_at_home
 use Rattle.op_model.specs.Tables.Home.{on_get, on_getx, on_inv_ack, on_shwb, on_fack, on_nakc, on_wb, on_rpl, grant}
 use Rattle.op_model.specs.Tables.Remote.{meets, on_message, row_of, on_fwd_get, on_fwd_getx, on_inv, on_put, on_putx, on_nak}
 use Rattle.op_model.specs.Events.Node.{Input, HitNext, IssueNext, EvictLine, TakeFrom, ReclaimLine, NodeOutcome, local, with_next, hit_next, issue_next, evict_line, with_victim, by_row, and_call, map_ok, bind, is_outstanding, taking, asks_victim, fits_victim, departs}
-use Rattle.op_model.proofs.Shares.{want-stays}
+use Rattle.op_model.proofs.Public.{want-stays}
 use Rattle.magic_node.specs.Nodes.{input_of}
 use Rattle.magic_node.specs.declared.acts.LocalEvent.{LocalEvent}
 use Rattle.magic_node.specs.declared.acts.LocalEvent.TheVariants as own

@@ -15,7 +15,7 @@ use Rattle.op_model.specs.Run.Runs.{start_share}
 use Rattle.dir_header.specs.Sharers.{Directory}
 use Rattle.lane_queues.specs.LaneStates.{LaneState, no_messages}
 use Rattle.msg_words.specs.SendList.{SendList}
-use Rattle.event_tally.proofs.Tallies.{tally_of-nil}
+use Rattle.event_tally.proofs.Public.{tally_of-nil}
 use Rattle.machine.specs.Kept.{programs_in, charge_in, share_or, share_in, left_at, left_in, no_sends, IsNodeAt, AreLanesOf, IsKept}
 use Rattle.machine.specs.Starts.{charge_of, IsFreshOf, AreFresh, IsNewAt, AreNew}
 use Rattle.machine.specs.Faces.{Face, start_face}

@@ -17,13 +17,11 @@ use Rattle.op_model.specs.Run.Runs.{Past, start, run_by}
 use Rattle.op_model.specs.Run.Weight.{weight}
 use Rattle.op_model.specs.Events.Step.{Done, effect, after, IsTake}
 use Rattle.op_model.specs.declared.events.Event.TheVariants.{Hit, Issue, Evict, Take, Reclaim}
-use Rattle.one_history.proofs.OneHistory.{one_history}
-use Rattle.rest_laws.proofs.AtRest.{resting}
-use Rattle.rest_laws.proofs.Falls.{falling_weight}
-use Rattle.rest_laws.proofs.Enabled.{enabled_take}
+use Rattle.one_history.proofs.Public.{one_history}
+use Rattle.rest_laws.proofs.Public.{enabled_take, falling_weight, resting}
 use Rattle.lane_queues.specs.LaneStates.{LaneState, AreEmpty}
 use Rattle.msg_words.specs.SendList.{SendList}
-use Rattle.event_tally.proofs.Tallies.{tally_of-at}
+use Rattle.event_tally.proofs.Public.{tally_of-at}
 use Rattle.machine.specs.Machines.{MachineView, run_of, trace_of, AreAllDone, IsMachine, IsNext, effect_in}
 use Rattle.machine.specs.Kept.{share_in, state_of, programs_in, charge_in, left_at, moments_in, IsKept}
 use Rattle.machine.specs.Views.{view_by, IsNodeOf}
@@ -33,8 +31,7 @@ use Rattle.machine.proofs.Programs.{program-of}
 use Rattle.machine.specs.Faces.{Face}
 use Rattle.op_model.specs.Programs.{programs_of}
 use Rattle.op_model.specs.Run.Machines.{IsEventOf}
-use Rattle.op_model.proofs.Runs.{run-split}
-use Rattle.op_model.proofs.Plain.{take-next}
+use Rattle.op_model.proofs.Public.{run-split, take-next}
 
 -- one entry more
 pub kept_of-push : (state : State) (entries : List Entry) (entry : Entry) → kept_of state (entries ++ entry ∷ []) ≡ kept_of state entries ++ cond (is_completed state entry) (entry ∷ []) []

@@ -9,11 +9,11 @@ use Rattle.op_model.specs.declared.operations.Op.{Op}
 use Rattle.op_model.specs.declared.errors.NoMemory.{NoMemory}
 use Rattle.op_model.specs.Programs.{IsOpOf, IsProgramOf, ArePrograms}
 use Rattle.op_model.specs.Shares.{Linked}
-use Rattle.op_model.proofs.Plain.{map-replicate}
+use Rattle.op_model.proofs.Public.{map-replicate}
 use Rattle.dir_header.specs.Sharers.{Directory}
 use Rattle.sharer_dir.specs.Linked.{LinkedView, first_linked, linked_directory}
 use Rattle.machine.specs.Starts.{charge_of, IsFreshOf, AreFresh}
-use Rattle.machine.proofs.Faces.{slice_get-read, slice_get-set_at, slice_get-set_other}
+use Rattle.machine.proofs.Public.{slice_get-read, slice_get-set_at, slice_get-set_other}
 
 replicate-at : {A : Type 0} (n i : ℕ) (x y : A) → slice_get (replicate n x) i ≡ Some y → y ≡ x
 replicate-at zero i x y is = cc

@@ -15,16 +15,14 @@ use Rattle.op_model.specs.Lines.{Copy, LineShare, NoService, Outcome, Room, is_i
 use Rattle.op_model.specs.Shares.{Share, first_header, copy_of, header_of, line_share, want_on, want_after, header_in, Copies, copy_in, Headers}
 use Rattle.op_model.specs.Tables.Home.{on_getx, on_rpl, no_other}
 use Rattle.op_model.specs.Tables.Remote.{on_nak, on_put, on_putx}
-use Rattle.op_model.proofs.Plain.{some_held}
-use Rattle.line_invariant.proofs.Basics.{if-either}
+use Rattle.op_model.proofs.Public.{some_held}
+use Rattle.line_invariant.proofs.Public.{if-either}
 use Rattle.cpu_cache.specs.Processors.{ProcView}
 use Rattle.msg_words.specs.SendList.{SendList}
 use Rattle.magic_node.specs.Nodes.{is_for_home}
 use Rattle.node_share.specs.Parts.{share_of, AreCopies, AreHeaders, DoesRow}
-use Rattle.node_share.proofs.Homes.{put-same}
-use Rattle.node_share.proofs.Copies.{copy-kept}
-use Rattle.node_share.proofs.Rows.{row-share}
-use Rattle.node_share.proofs.Wants.{sent-none, some-waits, on-line, want-gone}
+use Rattle.node_share.proofs.Public.{copy-kept, on-line, put-same, row-share, sent-none, some-waits}
+use Rattle.node_share.proofs.Public.{want-gone}
 
 abbrev pub IsQuiet : Outcome → Type 0
 IsQuiet o = (o.served ≡ NoService) × (o.done ≡ false)

@@ -8,9 +8,9 @@ use Rattle.op_model.specs.Operations.{Words}
 use Rattle.op_model.specs.Events.Node.{Input, NodeOutcome, local}
 use Rattle.op_model.specs.Shares.{Share}
 use Rattle.op_model.specs.Programs.{IsProgramOf}
-use Rattle.own_part.proofs.Acts.{own_act}
+use Rattle.own_part.proofs.Public.{own_act}
 use Rattle.message_range.specs.Fitting.{IsInputForOther, IsInputOf, IsSentOf, IsShareOf}
-use Rattle.message_range.proofs.Acts.{IsActed, every-act}
+use Rattle.message_range.proofs.Public.{IsActed, every-act}
 use Rattle.cpu_cache.specs.declared.effects.Effect.{Effect}
 use Rattle.cpu_cache.specs.Caches.{CacheView}
 use Rattle.cpu_cache.specs.Processors.{ProcView}

@@ -14,8 +14,8 @@ use Rattle.op_model.specs.Shares.{Share, copy_of, header_of, is_set_empty, line_
 use Rattle.op_model.specs.Tables.Home.{requester_of}
 use Rattle.op_model.specs.Tables.Remote.{meets, asks_well, is_invalidate, is_forward, is_forward_get, is_forward_getx, gets_elsewhere, getxs_elsewhere, waits_load, waits_write}
 use Rattle.op_model.specs.Events.Node.{meets_row}
-use Rattle.op_model.proofs.Plain.{three_parts}
-use Rattle.own_part.proofs.Basics.{all4}
+use Rattle.op_model.proofs.Public.{three_parts}
+use Rattle.own_part.proofs.Public.{all4}
 use Rattle.cpu_cache.specs.Caches.{CacheView}
 use Rattle.cpu_cache.specs.Processors.{ProcView}
 use Rattle.dir_header.specs.HomeSides.{HomeView, header_at}

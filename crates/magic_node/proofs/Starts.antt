@@ -6,7 +6,7 @@ use Rattle.op_model.specs.declared.operations.Op.{Op}
 use Rattle.op_model.specs.Run.Runs.{start_share}
 use Rattle.op_model.specs.Shares.{Charge}
 use Rattle.op_model.specs.Programs.{IsProgramOf}
-use Rattle.message_range.proofs.Runs.{own-first, share-first}
+use Rattle.message_range.proofs.Public.{own-first, share-first}
 use Rattle.cpu_cache.specs.Caches.{CacheView}
 use Rattle.cpu_cache.specs.Processors.{ProcView}
 use Rattle.dir_header.specs.HomeSides.{HomeView}

@@ -18,15 +18,16 @@ use Rattle.op_model.specs.Events.Node.{NodeOutcome, TakeFrom, and_call, asks_vic
 use Rattle.op_model.specs.Tables.Home.{on_get, lacks_link, wants_victim}
 use Rattle.op_model.specs.Tables.Processor.{call_in, holds_link, reclaim}
 use Rattle.op_model.specs.Tables.Remote.{meets, on_message, row_of}
-use Rattle.line_invariant.proofs.Basics.{if-either}
+use Rattle.line_invariant.proofs.Public.{if-either}
 use Rattle.cpu_cache.specs.declared.effects.Effect.{Effect}
 use Rattle.msg_words.specs.SendList.{SendList}
 use Rattle.std.specs.FinMap as fin
 use Rattle.node_share.specs.Parts.{row_at, sent, AreHeaders, DoesRow, HasRoom}
-use Rattle.node_share.proofs.Homes.{put-same}
-use Rattle.reclaim.proofs.Called.{calls-in}
+use Rattle.node_share.proofs.Public.{put-same}
+use Rattle.reclaim.proofs.Public.{calls-in}
 use Rattle.std.proofs.Common.{unwrap_or}
-use Rattle.op_model.proofs.Plain.{second_of_four, last_of_four, parts_but_last, last_two_parts, some_held, err-ok}
+use Rattle.op_model.proofs.Public.{err-ok, last_of_four, last_two_parts, parts_but_last, second_of_four}
+use Rattle.op_model.proofs.Public.{some_held}
 use Rattle.cpu_cache.specs.Effects.{effect_of}
 use Rattle.node_share.specs.Effects.{Acts}
 

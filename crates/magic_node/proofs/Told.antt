@@ -9,16 +9,16 @@ use Rattle.op_model.specs.Lines.{LineShare, NoService, Outcome}
 use Rattle.op_model.specs.Shares.{Charge, Share, header_of, line_share, room_of, Copies}
 use Rattle.op_model.specs.Events.Node.{NodeOutcome, EvictLine, ReclaimLine, bind, by_row, departs, evict_line, local, map_ok, permit}
 use Rattle.op_model.specs.Tables.Processor.{evict, reclaim, call_in}
-use Rattle.op_model.proofs.Plain.{err-ok}
+use Rattle.op_model.proofs.Public.{err-ok}
 use Rattle.cpu_cache.specs.Effects.{nothing}
-use Rattle.line_invariant.proofs.Basics.{if-either}
-use Rattle.one_history.proofs.Events.{evict-quiet}
+use Rattle.line_invariant.proofs.Public.{if-either}
+use Rattle.one_history.proofs.Public.{evict-quiet}
 use Rattle.cpu_cache.specs.Processors.{ProcView}
 use Rattle.dir_header.specs.HomeSides.{HomeView, header_at, room_in}
 use Rattle.msg_words.specs.SendList.{SendList}
 use Rattle.node_share.specs.Parts.{share_of, row_at, Did, DoesRow}
 use Rattle.node_share.specs.Effects.{Acts}
-use Rattle.node_share.proofs.Wants.{effect-none}
+use Rattle.node_share.proofs.Public.{effect-none}
 
 -- an eviction serves nothing
 module _ (sizes : Sizes) (node : ℕ) (share : Share) where

@@ -24,12 +24,11 @@ use Rattle.op_model.specs.Shares.{Charge, Share, conflicts, copy_of, first_heade
 use Rattle.op_model.specs.Tables.Home.{wants_victim}
 use Rattle.op_model.specs.Tables.Processor.{begin_op, call_in, evict, fits, hit, holds_link, reclaim, serves}
 use Rattle.op_model.specs.Tables.Remote.{on_message}
-use Rattle.op_model.proofs.Plain.{parts_but_last, last_two_parts, err-ok}
-use Rattle.op_model.proofs.Shares.{fits-copy}
-use Rattle.line_invariant.proofs.Basics.{if-either}
-use Rattle.one_history.proofs.Events.{header-kept, refuses}
+use Rattle.op_model.proofs.Public.{err-ok, fits-copy, last_two_parts, parts_but_last}
+use Rattle.line_invariant.proofs.Public.{if-either}
+use Rattle.one_history.proofs.Public.{header-kept, refuses}
 use Rattle.node_range.specs.Range.{IsHeaderIn, IsSentIn}
-use Rattle.node_range.proofs.Tables.{begin-in, call-in-in, evict-in, message-in, reclaim-in}
+use Rattle.node_range.proofs.Public.{begin-in, call-in-in, evict-in, message-in, reclaim-in}
 use Rattle.message_range.specs.Fitting.{IsInputForOther, IsInputOf, IsMsgForOther, AreOnWords, IsSentOf, IsServedOf, IsShareOf}
 use Rattle.message_range.proofs.HomeRows.{call-few, call-fits}
 use Rattle.message_range.proofs.Rows.{IsFitting, evict-fits, hit-fits}

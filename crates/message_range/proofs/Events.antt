@@ -21,7 +21,7 @@ use Rattle.op_model.specs.Nodes.{count}
 use Rattle.op_model.specs.Shares.{Charge, State, Trace, copy_of, header_of, is_linked, line_share, program, room_of}
 use Rattle.op_model.specs.Tables.Processor.{evict, holds_link, reclaim}
 use Rattle.node_range.specs.Range.{IsOfMachine, IsRanged}
-use Rattle.node_range.proofs.Programs.{in-program}
+use Rattle.node_range.proofs.Public.{in-program}
 use Rattle.message_range.specs.Fitting.{AreOnWords}
 use Rattle.message_range.proofs.Acts.{evicts-copy, reclaims-holder}
 

@@ -3,3 +3,4 @@ pub mod Contents
 pub mod Told
 pub mod Named
 pub mod Departures
+pub mod Public

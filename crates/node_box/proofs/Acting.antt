@@ -19,8 +19,8 @@ use Rattle.op_model.specs.Events.Step.{to_lane}
 use Rattle.op_model.specs.Run.Bounds.{lane_bound}
 use Rattle.op_model.specs.Parts.Part.{Part, ByLane, at_lane, logged, sent_to, flushed_to, taken_from, cleared_from, last_departs, departs_at, own_room}
 use Rattle.op_model.specs.Parts.OwnStep.{after_outcome, own_step}
-use Rattle.one_history.proofs.Owns.{to_lane-append}
-use Rattle.node_parts.proofs.OwnChange.{own_evict, own_hit, own_issue, own_reclaim}
+use Rattle.one_history.proofs.Public.{to_lane-append}
+use Rattle.node_parts.proofs.Public.{own_evict, own_hit, own_issue, own_reclaim}
 use Rattle.sharer_dir.specs.Linked.{LinkedView}
 use Rattle.cpu_cache.specs.declared.effects.Effect.{Effect}
 use Rattle.msg_words.specs.SendList.{SendList}
@@ -30,8 +30,7 @@ use Rattle.magic_node.specs.declared.acts.LocalEvent.{LocalEvent}
 use Rattle.magic_node.specs.declared.acts.LocalEvent.TheVariants as own
 use Rattle.lane_table.specs.Told.{unflushed, IsOutgoing}
 use Rattle.lane_table.specs.Views.{TableView, IsSeatOf}
-use Rattle.lane_table.proofs.Outboxes.{sent_more, has_place}
-use Rattle.lane_table.proofs.SmallRun.{drew}
+use Rattle.lane_table.proofs.Public.{drew, has_place, sent_more}
 use Rattle.node_box.specs.Boxes.{LinkedNode, BoxView, node_of, outcome_at, event_node, IsOwnLog, IsBox}
 use Rattle.node_box.specs.Outgoing.{HasRoomFor, IsPut}
 use Rattle.node_box.specs.Events.{event_of, IsGate}

@@ -17,7 +17,7 @@ use Rattle.op_model.specs.Tables.Processor.{holds_link}
 use Rattle.op_model.specs.Shares.{Charge, Linked, Unlinked, Share, header_in, header_of, line_share, room_of, links_among, first_header}
 use Rattle.op_model.specs.Messages.{msg_line, msg_content}
 use Rattle.op_model.specs.Events.Node.{NodeOutcome, TakeFrom, local, meets_row, is_get, with_victim, asks_victim, fits_victim, permit}
-use Rattle.op_model.proofs.Plain.{above_one, three_parts}
+use Rattle.op_model.proofs.Public.{above_one, three_parts}
 use Rattle.dir_header.specs.Sharers.{free_in, held_in}
 use Rattle.dir_header.specs.HomeSides.{HomeView, IsHome}
 use Rattle.sharer_dir.specs.Linked.{LinkedView, linked_directory, line_with}

@@ -17,8 +17,7 @@ use Rattle.lane_table.specs.Calls.{IsOtherLane, Flushes, FindsFull, FlushesNone}
 use Rattle.lane_table.specs.Steps.{loaded}
 use Rattle.lane_table.specs.Told.{unflushed}
 use Rattle.lane_table.specs.Views.{TableView, IsSeatOf}
-use Rattle.lane_table.proofs.Fields.{at_here, at_else, lane_tells}
-use Rattle.lane_table.proofs.Outboxes.{outbox_after, last_flushed}
+use Rattle.lane_table.proofs.Public.{at_else, at_here, lane_tells, last_flushed, outbox_after}
 use Rattle.node_box.specs.Boxes.{BoxView, node_of, IsOwnLog, IsBox}
 
 same_or_other : (b : ℕ) (c : Class) (j : ℕ) (d : Class) → ((j ≡ b) × (d ≡ c)) ⊎ IsOtherLane b c j d

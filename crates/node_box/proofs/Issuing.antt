@@ -15,7 +15,7 @@ use Rattle.op_model.specs.Tables.Processor.{serves, fits, evict, begin_op, begin
 use Rattle.op_model.specs.Shares.{Share, conflicts, copy_of, line_share, room_of}
 use Rattle.op_model.specs.Events.Node.{NodeOutcome, HitNext, IssueNext, EvictLine, local, map_ok, bind, by_row, departs, hit_next, issue_next, is_outstanding, with_next, permit}
 use Rattle.op_model.specs.OwnPart.{IsOutstanding}
-use Rattle.op_model.proofs.Plain.{eqb-swap}
+use Rattle.op_model.proofs.Public.{eqb-swap}
 use Rattle.node_box.specs.declared.turns.Turn.{Turn}
 use Rattle.node_box.specs.declared.turns.Turn.TheVariants as Turns
 use Rattle.node_box.specs.declared.turns.HeldCause.TheVariants as Causes

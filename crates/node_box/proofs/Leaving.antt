@@ -21,7 +21,7 @@ use Rattle.op_model.specs.declared.events.Class.TheVariants.{Request}
 use Rattle.op_model.specs.Events.Step.{departures}
 use Rattle.lane_table.specs.Steps.{loaded, looked_out}
 use Rattle.lane_table.specs.Told.{unflushed}
-use Rattle.lane_table.proofs.Fields.{at_here}
+use Rattle.lane_table.proofs.Public.{at_here}
 use Rattle.node_box.proofs.Counting.{empty_count}
 
 not_true : (b : Bool) → (IsTrue b → ⊥) → b ≡ false

@@ -8,9 +8,8 @@ use Rattle.op_model.specs.declared.messages.Msg.{Msg}
 use Rattle.op_model.specs.Messages.{same_class, msg_class}
 use Rattle.op_model.specs.Events.Step.{to_lane}
 use Rattle.op_model.specs.Run.Bounds.{lane_bound}
-use Rattle.op_model.proofs.Plain.{eqb-swap, take-next}
-use Rattle.op_model.proofs.Shares.{same_class-is}
-use Rattle.one_history.proofs.Owns.{to_lane-append}
+use Rattle.op_model.proofs.Public.{eqb-swap, same_class-is, take-next}
+use Rattle.one_history.proofs.Public.{to_lane-append}
 use Rattle.out_space.specs.Boxes.{BoxState, IsBox, waiting, with_waiting, waiting-with_waiting, sizes-with_waiting}
 use Rattle.node_box.specs.Outgoing.{HasSpace, HasRoomFor, IsPut}
 

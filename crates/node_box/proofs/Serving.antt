@@ -5,7 +5,7 @@ use Rattle.op_model.specs.declared.events.Class.TheVariants.{Request, Reply}
 use Rattle.op_model.specs.Parts.Part.{Part, Note, no_note, at_lane, put_lane, sent_to, flushed_to, out_note}
 use Rattle.lane_table.specs.Calls.{IsOtherLane, Flushes, FlushesNone}
 use Rattle.lane_table.specs.Told.{unflushed}
-use Rattle.lane_table.proofs.Fields.{at_here, at_else}
+use Rattle.lane_table.proofs.Public.{at_else, at_here}
 use Rattle.node_box.specs.Boxes.{BoxView}
 use Rattle.node_box.specs.Events.{FlushesLane}
 use Rattle.node_box.specs.Lanes.{lane_place, IsLaneServed, OnlyFlushes, AreFlushed}

@@ -10,12 +10,11 @@ use Rattle.op_model.specs.Shares.{Linked}
 use Rattle.op_model.specs.Events.Node.{NodeOutcome, TakeFrom}
 use Rattle.op_model.specs.Parts.Part.{Part, ByLane, at_lane, put_lane, logged, taken_from, cleared_from, in_note, named}
 use Rattle.op_model.specs.Parts.OwnStep.{after_outcome, own_step}
-use Rattle.node_parts.proofs.OwnChange.{own_take}
+use Rattle.node_parts.proofs.Public.{own_take}
 use Rattle.sharer_dir.specs.Linked.{LinkedView}
 use Rattle.lane_table.specs.Steps.{freed}
-use Rattle.lane_table.proofs.Fields.{at_here}
+use Rattle.lane_table.proofs.Public.{at_here, drew}
 use Rattle.node_box.specs.Boxes.{LinkedNode, node_of, outcome_at}
-use Rattle.lane_table.proofs.SmallRun.{drew}
 use Rattle.node_box.proofs.Acting.{IsAfter, own_number}
 
 -- the part after the event

@@ -11,7 +11,7 @@ use Rattle.op_model.specs.Parts.Composition.{compose}
 use Rattle.std.proofs.Math.Seq.{drop-nil}
 use Rattle.std.proofs.lemmas.Bool.{eqb-true}
 use Rattle.std.proofs.lemmas.List.{drop-append-le}
-use Rattle.one_history.proofs.Owns.{to_lane-append}
+use Rattle.one_history.proofs.Public.{to_lane-append}
 
 drop_more : {A : Type 0} (j k : ℕ) (xs : List A) → drop (j + k) xs ≡ drop k (drop j xs)
 drop_more zero k xs = ap (λ n. drop n xs) (zero-add k)

@@ -15,7 +15,7 @@ use Rattle.op_model.specs.Parts.OwnStep.{own_step}
 use Rattle.op_model.specs.Parts.Composition.{IsReady, compose}
 use Rattle.op_model.specs.Parts.Journal.{Agrees, IsJournal, drawn}
 use Rattle.line_map.specs.Sizes.{Sizes}
-use Rattle.op_model.proofs.Plain.{eqb-self, total-zero, total-alike}
+use Rattle.op_model.proofs.Public.{eqb-self, total-alike, total-zero}
 use Rattle.node_parts.proofs.Composed.{compose_alike}
 use Rattle.node_parts.proofs.OwnChange.{own_change}
 use Rattle.node_parts.proofs.Runs.{run_goes_on}

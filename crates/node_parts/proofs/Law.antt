@@ -16,8 +16,8 @@ use Rattle.op_model.specs.Events.Step.{Programs, Off, none_off, one_off, put_at,
 use Rattle.op_model.specs.Parts.Part.{Part, ByLane, at_lane, put_lane, sent_to, flushed_to, taken_from, cleared_from, out_note, in_note, notes_empty, named, gate_count, own_room}
 use Rattle.op_model.specs.Parts.OwnStep.{after_outcome, part_of, take_named, own_step}
 use Rattle.op_model.specs.Parts.Composition.{compose, IsReady}
-use Rattle.op_model.proofs.Shares.{same_class-is}
-use Rattle.one_history.proofs.LocalRoom.{local_room}
+use Rattle.op_model.proofs.Public.{same_class-is}
+use Rattle.one_history.proofs.Public.{local_room}
 use Rattle.node_parts.proofs.Basics.{some_when, went_on}
 use Rattle.node_parts.proofs.Composed.{composed}
 use Rattle.node_parts.proofs.Departures.{departures_later, count_is}

@@ -6,3 +6,4 @@ pub mod OwnChange
 pub mod Start
 pub mod Runs
 pub mod Journal
+pub mod Public

@@ -15,7 +15,7 @@ use Rattle.op_model.specs.MessageWords.{from_words}
 use Rattle.op_model.specs.Parts.Part.{Part, ByLane, at_lane, put_lane, Note, taken_from, cleared_from, in_note, notes_full, named, own_room}
 use Rattle.op_model.specs.Parts.OwnStep.{after_outcome, part_of, take_named, own_step}
 use Rattle.op_model.specs.Parts.Composition.{IsOwnChange}
-use Rattle.op_model.proofs.Shares.{same_class-is}
+use Rattle.op_model.proofs.Public.{same_class-is}
 use Rattle.node_parts.proofs.Basics.{some_when, went_on}
 
 abbrev Moves : Part → ByLane ℕ → Type 0

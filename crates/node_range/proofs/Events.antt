@@ -20,11 +20,9 @@ use Rattle.op_model.specs.Run.Runs.{Past, run, start}
 use Rattle.op_model.specs.Shares.{Charge, State, Trace, copy_of, header_of, program, room_of, share_at}
 use Rattle.op_model.specs.Tables.Processor.{call_in, evict, fits, hit, holds_link, leave_home, leave_remote, reclaim}
 use Rattle.one_history.specs.Sound.{IsSound}
-use Rattle.one_history.proofs.Runs.{first-copy, first-header}
-use Rattle.lane_bounds.proofs.Acts.{Act, after_act, after_row_of, just, taken_of}
-use Rattle.lane_bounds.proofs.Effects.{IsEach, each-event, is_fit, row_at}
-use Rattle.lane_bounds.proofs.Lanes.{taken-either}
-use Rattle.lane_bounds.proofs.Runs.{keeps-run}
+use Rattle.one_history.proofs.Public.{first-copy, first-header}
+use Rattle.lane_bounds.proofs.Public.{Act, IsEach, after_act, after_row_of, each-event, is_fit, just}
+use Rattle.lane_bounds.proofs.Public.{keeps-run, row_at, taken-either, taken_of}
 use Rattle.node_range.specs.Range.{AreIn, IsHeaderIn, IsOfMachine, IsRanged, IsSentIn}
 use Rattle.node_range.proofs.Programs.{next-in}
 use Rattle.node_range.proofs.Rows.{ranged-row}

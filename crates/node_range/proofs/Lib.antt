@@ -3,3 +3,4 @@ pub mod Programs
 pub mod Rows
 pub mod Events
 pub mod Traces
+pub mod Public

@@ -11,8 +11,8 @@ use Rattle.op_model.specs.Messages.{Content, class_of, msg_content-message, msg_
 use Rattle.op_model.specs.Nodes.{count}
 use Rattle.op_model.specs.Shares.{Lanes, Share, State, copy_of, header_of, put_share}
 use Rattle.line_invariant.specs.Line.{addressed}
-use Rattle.one_history.proofs.Shares.{copy-other, header-other, header-same}
-use Rattle.lane_bounds.proofs.Acts.{after_row_of, tag}
+use Rattle.one_history.proofs.Public.{copy-other, header-other, header-same}
+use Rattle.lane_bounds.proofs.Public.{after_row_of, tag}
 use Rattle.node_range.specs.Range.{AreIn, IsContentIn, IsHeaderIn, IsRanged, IsSentIn}
 
 not-sent : (nodes b : ℕ) (class : Class) (sends : List (ℕ × Content)) → IsSentIn nodes sends → nodes ≤ b → addressed b class sends ≡ []

@@ -21,8 +21,8 @@ use Rattle.op_model.specs.Operations.{is_load}
 use Rattle.op_model.specs.Tables.Home.{grant, grantee_of, lacks_link, no_other, on_fack, on_get, on_getx, on_inv_ack, on_nakc, on_rpl, on_shwb, on_wb, requester_of}
 use Rattle.op_model.specs.Tables.Processor.{ask, begin_at_home, begin_op, call_in, evict, fits, holds_link, leave_home, leave_remote, load_at_home, reclaim, serves, write_at_home}
 use Rattle.op_model.specs.Tables.Remote.{meets, on_fwd_get, on_fwd_getx, on_inv, on_message, on_nak, on_put, on_putx, row_of}
-use Rattle.op_model.proofs.Shares.{in_order-listed}
-use Rattle.line_invariant.proofs.Basics.{if-either}
+use Rattle.op_model.proofs.Public.{in_order-listed}
+use Rattle.line_invariant.proofs.Public.{if-either}
 use Rattle.node_range.specs.Range.{IsContentIn, IsGranteeIn, IsHeaderIn, IsSentIn, IsWaitIn}
 
 module _ (nodes : ℕ) (some : 0 < nodes) where

@@ -12,7 +12,7 @@ use Rattle.op_model.specs.Events.Step.{Programs}
 use Rattle.op_model.specs.Programs.{IsOrderOf}
 use Rattle.op_model.specs.Run.Schedules.{all_nodes}
 use Rattle.op_model.specs.Shares.{Trace, program}
-use Rattle.op_model.proofs.Plain.{eqb-self}
+use Rattle.op_model.proofs.Public.{eqb-self}
 use Rattle.node_range.specs.Range.{IsOfMachine}
 use Rattle.node_range.specs.Traces.{AreProgramsIn, IsTraceOf}
 

@@ -5,7 +5,7 @@ use Rattle.std.specs.FinMap as fin
 use Rattle.op_model.specs.Lines.{Copy, Absent, Shared, Exclusive, is_empty}
 use Rattle.op_model.specs.Shares.{put_copy, Copies, copy_in}
 use Rattle.cpu_cache.specs.Caches.{CacheView, IsDirectMapped}
-use Rattle.cpu_cache.proofs.Copies.{stored, get-put_copy, same_copies}
+use Rattle.cpu_cache.proofs.Public.{get-put_copy, same_copies, stored}
 use Rattle.node_share.specs.Parts.{AreCopies}
 
 stored-read : (copy : Copy) → unwrap_or (stored copy) Absent ≡ copy

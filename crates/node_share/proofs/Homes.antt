@@ -8,11 +8,9 @@ use Rattle.dir_header.specs.Sharers.{Directory}
 use Rattle.dir_header.specs.HomeSides.{HomeView, IsHome, header_at, room_in, with_header}
 use Rattle.std.specs.Prelude.{is_err, OnOk}
 use Rattle.op_model.specs.Lines.{is_idle}
-use Rattle.op_model.proofs.Plain.{some_held}
-use Rattle.dir_header.proofs.Sums.{sum-insert}
-use Rattle.dir_header.proofs.Changes.{pend}
-pub use Rattle.dir_header.proofs.Tables.{put-same}
-use Rattle.dir_header.proofs.Shares.{put-put, header-put}
+use Rattle.op_model.proofs.Public.{some_held}
+use Rattle.dir_header.proofs.Public.{header-put, pend, put-put, sum-insert}
+pub use Rattle.dir_header.proofs.Public.{put-same}
 use Rattle.node_share.specs.Parts.{AreHeaders}
 
 pub record Puts {D : Type 0} (old new : HomeView D) (line : ℕ) (header : Header) : Type 0 where

@@ -9,9 +9,9 @@ use Rattle.op_model.specs.Nodes.{Nodes, listed, unlist, count, in_order, count-u
 use Rattle.op_model.specs.Lines.{first_of_list, to_each, to_listed}
 use Rattle.op_model.specs.Tables.Home.{no_other}
 use Rattle.op_model.specs.Events.Node.{messages}
-use Rattle.op_model.proofs.Shares.{count-below}
+use Rattle.op_model.proofs.Public.{count-below}
 use Rattle.msg_words.specs.SendList.{SendList}
-use Rattle.dir_header.proofs.Returns.{some-listed}
+use Rattle.dir_header.proofs.Public.{some-listed}
 use Rattle.node_share.specs.Parts.{sent}
 use Rattle.node_share.proofs.Wants.{sent-none}
 

@@ -15,7 +15,7 @@ use Rattle.op_model.specs.Lines.{Service, NoService, For}
 use Rattle.cpu_cache.specs.declared.effects.Effect.{Effect}
 use Rattle.node_share.proofs.Wants.{effect-none, effect-for}
 use Rattle.op_model.specs.Events.Node.{messages, by_row}
-use Rattle.op_model.proofs.Shares.{want-stays}
+use Rattle.op_model.proofs.Public.{want-stays}
 use Rattle.cpu_cache.specs.Effects.{effect_of, nothing, load_by}
 use Rattle.msg_words.specs.SendList.{SendList}
 use Rattle.node_share.specs.Parts.{share_of, AreCopies, row_at, sent, DoesRow}

@@ -15,7 +15,7 @@ use Rattle.op_model.specs.Shares.{put_copy, Copies, copy_in}
 use Rattle.op_model.specs.Tables.Processor.{serves, done_on}
 use Rattle.cpu_cache.specs.Caches.{CacheView, with_copy, is_set_free, is_set_taken, IsDirectMapped}
 use Rattle.cpu_cache.specs.Caches.{IsResident}
-use Rattle.cpu_cache.proofs.Sets.{free_by_none, taken_by, filled}
+use Rattle.cpu_cache.proofs.Public.{filled, free_by_none, taken_by}
 use Rattle.node_share.specs.Parts.{AreCopies, copy_done}
 use Rattle.node_share.proofs.Copies.{copy-put, copy-put_other, copy-put_again, copy-kept}
 

@@ -15,7 +15,7 @@ use Rattle.cpu_cache.specs.Effects.{served_of, words_done, entry_at, done_of, ef
 use Rattle.cpu_cache.specs.declared.effects.Served.TheVariants as served
 use Rattle.cpu_cache.specs.Caches.{CacheView, is_set_free, is_set_taken}
 use Rattle.cpu_cache.specs.Processors.{ProcView}
-use Rattle.cpu_cache.proofs.Sets.{none_in_free, not_taken}
+use Rattle.cpu_cache.proofs.Public.{none_in_free, not_taken}
 use Rattle.msg_words.specs.SendList.{SendList}
 use Rattle.node_share.specs.Parts.{share_of, sent, copy_done}
 

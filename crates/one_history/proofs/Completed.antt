@@ -11,9 +11,9 @@ use Rattle.op_model.specs.Operations.{is_load}
 use Rattle.op_model.specs.Run.History.{Follows, IsNext, entries_by, history, is_completed, kept_of}
 use Rattle.op_model.specs.Run.Runs.{Past}
 use Rattle.op_model.specs.Shares.{State, Trace, program, want_on}
-use Rattle.op_model.proofs.Plain.{eqb-self}
+use Rattle.op_model.proofs.Public.{eqb-self}
 use Rattle.line_invariant.specs.Rows.{wanting}
-use Rattle.line_invariant.proofs.Served.{writes-answered}
+use Rattle.line_invariant.proofs.Public.{writes-answered}
 use Rattle.one_history.specs.Project.{project}
 use Rattle.one_history.specs.Sound.{IsBegunWell, IsSound, answered_of}
 

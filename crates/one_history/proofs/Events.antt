@@ -23,15 +23,14 @@ use Rattle.op_model.specs.Shares.{Charge, Share, State, Trace, conflicts, copy_o
 use Rattle.op_model.specs.Tables.Home.{lacks_link, on_get, wants_victim}
 use Rattle.op_model.specs.Tables.Processor.{begin_op, call_in, evict, fits, hit, holds_link, leave_home, leave_remote, reclaim, serves}
 use Rattle.op_model.specs.Tables.Remote.{meets, on_message, row_of}
-use Rattle.op_model.proofs.Plain.{eqb-self, parts_but_last, last_two_parts, second_of_four, err-ok}
-use Rattle.op_model.proofs.Shares.{serves-copy}
+use Rattle.op_model.proofs.Public.{eqb-self, err-ok, last_two_parts, parts_but_last, second_of_four}
+use Rattle.op_model.proofs.Public.{serves-copy}
 use Rattle.line_invariant.specs.Good.{IsGood}
 use Rattle.line_invariant.specs.Line.{Line, after_row}
 use Rattle.line_invariant.specs.Rows.{IsDoneRight, IsOwnServed, IsOwnWant, IsWantKept, wanting, with_header}
-use Rattle.line_invariant.proofs.Away.{away-begin, away-evict, away-message, same-alone}
-use Rattle.line_invariant.proofs.Basics.{if-either}
-use Rattle.line_invariant.proofs.Locals.{good-begin, good-evict, good-hit, good-reclaim, hit-fresh}
-use Rattle.line_invariant.proofs.Served.{idle-answered, wants-empty}
+use Rattle.line_invariant.proofs.Public.{away-begin, away-evict, away-message, good-begin, good-evict}
+use Rattle.line_invariant.proofs.Public.{good-hit, good-reclaim, hit-fresh, idle-answered, if-either}
+use Rattle.line_invariant.proofs.Public.{same-alone, wants-empty}
 use Rattle.one_history.specs.Project.{line_words, project}
 use Rattle.one_history.specs.Sound.{IsNextOp, IsSound, answered_of}
 use Rattle.one_history.proofs.Order.{IsNextWant}

@@ -14,3 +14,4 @@ pub mod Runs
 pub mod RowMet
 pub mod Moves
 pub mod OneHistory
+pub mod Public

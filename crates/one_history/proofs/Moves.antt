@@ -20,11 +20,9 @@ use Rattle.op_model.specs.Run.History.{IsStart, NeverStarts, is_completed}
 use Rattle.op_model.specs.Run.Runs.{Past, past_after, run_from}
 use Rattle.op_model.specs.Shares.{Charge, Share, State, Trace, conflicts, is_set_empty, line_share, program, put_share, room_of, want_after, want_on}
 use Rattle.op_model.specs.Tables.Processor.{begin_op, evict, hit, reclaim, serves}
-use Rattle.op_model.proofs.Shares.{want-stays, free-want, none-on}
+use Rattle.op_model.proofs.Public.{free-want, none-on, want-stays}
 use Rattle.line_invariant.specs.Rows.{IsDoneRight}
-use Rattle.line_invariant.proofs.Away.{begin-ends, stays-still}
-use Rattle.line_invariant.proofs.Basics.{if-either}
-use Rattle.line_invariant.proofs.Wants.{done-right, keeps-want}
+use Rattle.line_invariant.proofs.Public.{begin-ends, done-right, if-either, keeps-want, stays-still}
 use Rattle.one_history.specs.Sound.{is_begun_on}
 use Rattle.one_history.proofs.Events.{evict-quiet, reclaim-quiet}
 use Rattle.one_history.proofs.Order.{done-row, wanted}

@@ -13,8 +13,7 @@ use Rattle.op_model.specs.Messages.{msg_class, same_class}
 use Rattle.op_model.specs.Run.Runs.{Past, past_after}
 use Rattle.op_model.specs.Shares.{Lanes, Share, State, Trace, header_of, line_share, put_share, share_at}
 use Rattle.op_model.specs.Tables.Processor.{call_in}
-use Rattle.op_model.proofs.Plain.{eqb-self}
-use Rattle.op_model.proofs.Shares.{same_class-is}
+use Rattle.op_model.proofs.Public.{eqb-self, same_class-is}
 use Rattle.line_invariant.specs.Rows.{with_header, with_header_ok}
 use Rattle.one_history.proofs.Shares.{row_past, taken_of}
 

@@ -11,7 +11,7 @@ use Rattle.op_model.specs.Lines.{Outcome}
 use Rattle.op_model.specs.Messages.{msg_line, same_class}
 use Rattle.op_model.specs.Operations.{Words}
 use Rattle.op_model.specs.Shares.{Share, State, copy_of, header_of, put_share, want_on}
-use Rattle.op_model.proofs.Shares.{same_class-is}
+use Rattle.op_model.proofs.Public.{same_class-is}
 use Rattle.line_invariant.specs.Line.{Line, addressed, after_row, answered_after, taken, words_after}
 use Rattle.one_history.specs.Project.{of_line, project}
 use Rattle.one_history.proofs.Shares.{IsOn, after_row_of, copy-other, copy-same, header-other, header-same, of_line-append, of_line-behind, of_line-other, of_line-same, taken_of, want-other, want-same}

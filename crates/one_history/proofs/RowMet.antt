@@ -14,9 +14,7 @@ use Rattle.op_model.specs.Shares.{Charge, Share, Trace, copy_of, header_of, is_s
 use Rattle.op_model.specs.Tables.Remote.{meets}
 use Rattle.line_invariant.specs.Line.{Line}
 use Rattle.line_invariant.specs.Rows.{wanting}
-use Rattle.line_invariant.proofs.Away.{away-meets, same-alone}
-use Rattle.line_invariant.proofs.MeetsRow.{meets-take}
-use Rattle.line_invariant.proofs.Served.{wants-empty}
+use Rattle.line_invariant.proofs.Public.{away-meets, meets-take, same-alone, wants-empty}
 use Rattle.one_history.specs.Project.{line_words, of_line, project}
 use Rattle.one_history.specs.Sound.{IsSound, answered_of}
 use Rattle.one_history.proofs.Owns.{at-home}

@@ -16,12 +16,8 @@ use Rattle.op_model.specs.Tables.Remote.{on_message}
 use Rattle.line_invariant.specs.Good.{IsGood}
 use Rattle.line_invariant.specs.Line.{Line, after_row}
 use Rattle.line_invariant.specs.Rows.{IsDoneRight, IsPut, IsServedFor, IsWantKept, wanting}
-use Rattle.line_invariant.proofs.Away.{stays-empty}
-use Rattle.line_invariant.proofs.LocalRows.{good-call-in}
-use Rattle.line_invariant.proofs.Locals.{linked-clean}
-use Rattle.line_invariant.proofs.Served.{put-answered, served-take, writes-answered}
-use Rattle.line_invariant.proofs.Takes.{good-take}
-use Rattle.line_invariant.proofs.Wants.{done-right, keeps-want}
+use Rattle.line_invariant.proofs.Public.{done-right, good-call-in, good-take, keeps-want, linked-clean}
+use Rattle.line_invariant.proofs.Public.{put-answered, served-take, stays-empty, writes-answered}
 use Rattle.one_history.specs.Project.{line_words, of_line, project}
 use Rattle.one_history.specs.Sound.{IsNextOp, IsSound, answered_of}
 use Rattle.one_history.proofs.Order.{IsNextWant, begun-next, wanted}

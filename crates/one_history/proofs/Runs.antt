@@ -16,10 +16,10 @@ use Rattle.op_model.specs.Lines.{Absent}
 use Rattle.op_model.specs.Run.History.{entries_by}
 use Rattle.op_model.specs.Run.Runs.{Past, past_after, run, run_from, start, start_share}
 use Rattle.op_model.specs.Shares.{Charge, Trace, copy_of, first_header, header_of, program, header_in}
-use Rattle.op_model.proofs.Shares.{first_headers-same}
+use Rattle.op_model.proofs.Public.{first_headers-same}
 use Rattle.line_invariant.specs.Good.{IsGood}
 use Rattle.line_invariant.specs.Line.{first_line}
-use Rattle.line_invariant.proofs.FirstLine.{good-first}
+use Rattle.line_invariant.proofs.Public.{good-first}
 use Rattle.one_history.specs.Project.{line_words, project, words_at}
 use Rattle.one_history.specs.Sound.{IsCached, IsOrdered, IsSound, answered_of, is_kept}
 use Rattle.one_history.proofs.Events.{keeps-event}

@@ -12,7 +12,7 @@ use Rattle.op_model.specs.declared.operations.Op.{Op}
 use Rattle.op_model.specs.declared.state.Want.{Want}
 use Rattle.op_model.specs.Lines.{Absent, Copy, LineShare, is_empty}
 use Rattle.op_model.specs.Shares.{Share, conflicts, copy_of, is_set_empty, put_share, want_after, want_on}
-use Rattle.op_model.proofs.Shares.{empty-copy}
+use Rattle.op_model.proofs.Public.{empty-copy}
 use Rattle.line_invariant.specs.Rows.{wanting}
 use Rattle.one_history.specs.Sound.{IsCached, is_begun_on, is_kept}
 use Rattle.one_history.proofs.Shares.{IsOn, copy-other, copy-same}

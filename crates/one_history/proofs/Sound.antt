@@ -14,12 +14,11 @@ use Rattle.op_model.specs.Operations.{Words, entry_of}
 use Rattle.op_model.specs.Run.History.{IsNext, entries_by}
 use Rattle.op_model.specs.Run.Runs.{Past, entries_of, entry_for}
 use Rattle.op_model.specs.Shares.{Lanes, Share, Trace, program, put_share, want_on}
-use Rattle.op_model.proofs.Plain.{eqb-self}
+use Rattle.op_model.proofs.Public.{eqb-self}
 use Rattle.line_invariant.specs.Good.{IsGood}
 use Rattle.line_invariant.specs.Line.{after_row, answered_after, words_after}
 use Rattle.line_invariant.specs.Rows.{IsDoneRight, IsLoadWanted, wanting}
-use Rattle.line_invariant.proofs.LocalNodes.{after-load}
-use Rattle.line_invariant.proofs.Served.{idle-answered}
+use Rattle.line_invariant.proofs.Public.{after-load, idle-answered}
 use Rattle.one_history.specs.Project.{line_words, project, words_at}
 use Rattle.one_history.specs.Sound.{IsCached, IsNextOp, IsOrdered, IsSound, answered_in, answered_of, is_begun_on}
 use Rattle.one_history.proofs.Flat.{entry-here, entry-legal, entry-there}

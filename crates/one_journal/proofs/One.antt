@@ -8,7 +8,7 @@ use Rattle.op_model.specs.declared.events.Numbered.{Numbered}
 use Rattle.op_model.specs.Events.Step.{put_at}
 use Rattle.op_model.specs.Parts.Journal.{Agrees, IsJournal, IsJournalOf, drawn}
 use Rattle.op_model.specs.Parts.Part.{Part}
-use Rattle.op_model.proofs.Plain.{total-alike}
+use Rattle.op_model.proofs.Public.{total-alike}
 use Rattle.one_journal.specs.SameLogs.{AreAmong, AreListed, IsMerged}
 use Rattle.one_journal.proofs.Drawn.{Each, of-sum, of-total, stands}
 

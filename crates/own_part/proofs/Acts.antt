@@ -14,15 +14,12 @@ use Rattle.op_model.specs.OwnPart.{IsOwnLine, IsOwnPart}
 use Rattle.op_model.specs.Shares.{Charge, Share, conflicts, copy_of, header_of, is_set_empty, line_share, pending_lines, room_of, want_on}
 use Rattle.op_model.specs.Tables.Home.{wants_victim}
 use Rattle.op_model.specs.Tables.Processor.{begin_op, call_in, evict, hit, holds_link, reclaim, serves}
-use Rattle.op_model.proofs.Plain.{parts_but_last, last_two_parts, err-ok}
-use Rattle.op_model.proofs.Shares.{free-want, serves-copy}
-use Rattle.line_invariant.proofs.Basics.{if-either}
-use Rattle.one_history.proofs.Events.{header-kept, refuses}
-use Rattle.one_history.proofs.Sets.{none-conflicts}
-use Rattle.lane_bounds.proofs.Allowed.{IsAllowed, begin-allowed, evict-allowed, hit-allowed, message-allowed}
-use Rattle.lane_bounds.proofs.Homes.{links-bound, pending-stays}
-use Rattle.lane_bounds.proofs.Events.{not-full, call-allowed}
-use Rattle.lane_bounds.proofs.Kept.{held-within, within-held}
+use Rattle.op_model.proofs.Public.{err-ok, free-want, last_two_parts, parts_but_last, serves-copy}
+use Rattle.line_invariant.proofs.Public.{if-either}
+use Rattle.one_history.proofs.Public.{header-kept, none-conflicts, refuses}
+use Rattle.lane_bounds.proofs.Public.{IsAllowed, begin-allowed, call-allowed, evict-allowed, held-within}
+use Rattle.lane_bounds.proofs.Public.{hit-allowed, links-bound, message-allowed, not-full, pending-stays}
+use Rattle.lane_bounds.proofs.Public.{within-held}
 use Rattle.own_part.proofs.BegunRows.{begun-row, effect-row, free-row, quiet-row}
 use Rattle.own_part.proofs.OwnRows.{begin-keeps, call-keeps, call-quiet, evict-keeps, hit-keeps}
 use Rattle.own_part.proofs.ShareRows.{IsPartOf}

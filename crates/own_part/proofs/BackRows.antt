@@ -11,10 +11,10 @@ use Rattle.op_model.specs.declared.state.Wait.{Wait}
 use Rattle.op_model.specs.declared.state.Wait.TheVariants.{Idle, Invalidate, ForwardGet, ForwardGetX}
 use Rattle.op_model.specs.declared.state.Grantee.{Grantee}
 use Rattle.op_model.specs.declared.state.Grantee.TheVariants.{Nobody, Me, Node}
-use Rattle.line_invariant.proofs.Basics.{if-either}
+use Rattle.line_invariant.proofs.Public.{if-either}
 use Rattle.op_model.specs.Tables.Home.{grant, grantee_of, on_inv_ack, on_shwb, on_fack, on_nakc, on_wb, on_rpl, requester_of}
 use Rattle.op_model.specs.Tables.Remote.{waits_write, is_invalidate, is_forward, gets_elsewhere, getxs_elsewhere}
-use Rattle.op_model.proofs.Shares.{write-outstanding}
+use Rattle.op_model.proofs.Public.{write-outstanding}
 use Rattle.own_part.proofs.Basics.{away-empty, gets, getxs, idle-is, invalidates, none-between}
 use Rattle.own_part.proofs.Effects.{IsQuiet, IsEnd, waits-so}
 

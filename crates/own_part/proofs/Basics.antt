@@ -7,7 +7,7 @@ use Rattle.op_model.specs.declared.state.Wait.{Wait}
 use Rattle.op_model.specs.declared.state.Wait.TheVariants.{Idle, Invalidate, ForwardGet, ForwardGetX}
 use Rattle.op_model.specs.Lines.{Copy, Absent, is_idle, is_empty}
 use Rattle.op_model.specs.Tables.Remote.{is_invalidate, gets_elsewhere, getxs_elsewhere}
-use Rattle.op_model.proofs.Shares.{empty-copy}
+use Rattle.op_model.proofs.Public.{empty-copy}
 
 pub all4 : (a b c d : Bool) → (a && b && c && d) ≡ true → (a ≡ true) × (b ≡ true) × (c ≡ true) × (d ≡ true)
 all4 a b c d e = (grind arith, grind arith, grind arith, grind arith)

@@ -10,9 +10,9 @@ use Rattle.op_model.specs.Operations.{is_load}
 use Rattle.op_model.specs.Lines.{Absent, LineShare, Outcome, begun, is_empty, marked_load, is_outstanding}
 use Rattle.op_model.specs.OwnPart.{IsOutstanding}
 use Rattle.op_model.specs.Shares.{Charge, Share, copy_of, header_of, is_set_empty, line_share, put_share, room_of, want_after, want_on}
-use Rattle.op_model.proofs.Shares.{empty-copy, want-stays}
-use Rattle.one_history.proofs.Shares.{IsOn, copy-other, copy-same}
-use Rattle.lane_bounds.proofs.Allowed.{IsAllowed}
+use Rattle.op_model.proofs.Public.{empty-copy, want-stays}
+use Rattle.one_history.proofs.Public.{IsOn, copy-other, copy-same}
+use Rattle.lane_bounds.proofs.Public.{IsAllowed}
 use Rattle.own_part.proofs.Effects.{IsQuiet, IsMark, IsEnd, IsEffect}
 use Rattle.own_part.proofs.ShareRows.{AreOthersAway, IsPartOf, all-empty, empty-set, next_share, part-row}
 

@@ -6,12 +6,12 @@ use Rattle.op_model.specs.Nodes.{listed, enlist, unlist, count, only, listings}
 use Rattle.op_model.specs.Lines.{LineShare, Outcome, Room, is_idle, is_pending, is_exclusive}
 use Rattle.op_model.specs.OwnPart.{IsOwnLine, IsOwnWait}
 use Rattle.op_model.specs.declared.state.Wait.TheVariants.{Idle}
-use Rattle.line_invariant.proofs.Basics.{if-either}
+use Rattle.line_invariant.proofs.Public.{if-either}
 use Rattle.op_model.specs.declared.messages.NakCause.{NakCause}
 use Rattle.op_model.specs.declared.messages.NakCause.TheVariants.{Pending, NoLink, Budget}
 use Rattle.op_model.specs.Tables.Home.{on_get, on_getx, lacks_link, no_other, refuse, share_home_copy, share_memory, forward_get, give_home_copy, give_memory, forward_getx, invalidate_for}
 use Rattle.op_model.specs.Tables.Remote.{asks_well}
-use Rattle.op_model.proofs.Plain.{other_fails}
+use Rattle.op_model.proofs.Public.{other_fails}
 use Rattle.own_part.proofs.Basics.{idle-is, above-none, none-between}
 use Rattle.own_part.proofs.Effects.{IsQuiet, waits-so, idle-exclusive}
 

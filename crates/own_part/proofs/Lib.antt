@@ -9,3 +9,4 @@ pub mod ShareRows
 pub mod BegunRows
 pub mod Acts
 pub mod Runs
+pub mod Public

@@ -15,8 +15,8 @@ use Rattle.op_model.specs.declared.state.Wait.{Wait}
 use Rattle.op_model.specs.declared.state.Wait.TheVariants.{Idle, Invalidate, ForwardGet, ForwardGetX}
 use Rattle.op_model.specs.declared.state.Grantee.{Grantee}
 use Rattle.op_model.specs.declared.state.Grantee.TheVariants.{Nobody, Me, Node}
-use Rattle.op_model.proofs.Plain.{eqb-self, err-ok, above_one, other_fails}
-use Rattle.line_invariant.proofs.Basics.{if-either}
+use Rattle.op_model.proofs.Public.{above_one, eqb-self, err-ok, other_fails}
+use Rattle.line_invariant.proofs.Public.{if-either}
 use Rattle.own_part.proofs.Basics.{above-none, away-empty, idle-is, none-between}
 use Rattle.own_part.proofs.Effects.{IsQuiet, idle-exclusive, waits-so}
 

@@ -8,9 +8,9 @@ use Rattle.op_model.specs.OwnPart.{IsOwnLine, IsOwnWait}
 use Rattle.op_model.specs.declared.state.Want.{Want}
 use Rattle.op_model.specs.declared.state.Wait.{Wait}
 use Rattle.op_model.specs.declared.state.Wait.TheVariants.{Idle, Invalidate, ForwardGet, ForwardGetX}
-use Rattle.line_invariant.proofs.Basics.{if-either}
+use Rattle.line_invariant.proofs.Public.{if-either}
 use Rattle.op_model.specs.Tables.Remote.{on_fwd_get, on_fwd_getx, on_inv, on_put, on_putx, on_nak, waits_load, waits_write, is_forward_get, is_forward_getx}
-use Rattle.op_model.proofs.Shares.{load-outstanding, write-outstanding}
+use Rattle.op_model.proofs.Public.{load-outstanding, write-outstanding}
 use Rattle.own_part.proofs.Effects.{IsQuiet, IsMark, IsEnd, waits-so}
 
 pub fwd-get-quiet : (home requester : ℕ) (s : LineShare) → IsQuiet s (on_fwd_get home requester s)

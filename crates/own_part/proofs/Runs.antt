@@ -16,9 +16,8 @@ use Rattle.op_model.specs.Nodes.{listed-none}
 use Rattle.op_model.specs.OwnPart.{IsOwnLine, IsOwnPart}
 use Rattle.op_model.specs.Run.Runs.{Past, past_after, run, run_from, start, start_share}
 use Rattle.op_model.specs.Shares.{Charge, State, Trace, first_header, line_share, program}
-use Rattle.one_history.proofs.Runs.{first-copy, first-header}
-use Rattle.lane_bounds.proofs.Kept.{held-within}
-use Rattle.lane_bounds.proofs.Runs.{bounded-start}
+use Rattle.one_history.proofs.Public.{first-copy, first-header}
+use Rattle.lane_bounds.proofs.Public.{bounded-start, held-within}
 use Rattle.own_part.proofs.Acts.{own_act}
 
 -- whether each node's share is as it should be

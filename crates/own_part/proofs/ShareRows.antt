@@ -9,11 +9,10 @@ use Rattle.op_model.specs.declared.operations.Op.{Op}
 use Rattle.op_model.specs.Lines.{Absent, Copy, LineShare, Outcome, is_empty}
 use Rattle.op_model.specs.OwnPart.{IsOutstanding}
 use Rattle.op_model.specs.Shares.{Charge, Share, copy_of, header_of, is_set_empty, line_share, pending_lines, put_share, room_of, want_on}
-use Rattle.op_model.proofs.Shares.{empty-copy}
-use Rattle.one_history.proofs.Sets.{any-found, any-none, found}
-use Rattle.one_history.proofs.Shares.{IsOn, copy-other, copy-same, header-other, header-same, want-other, want-same}
-use Rattle.lane_bounds.proofs.Allowed.{IsAllowed}
-use Rattle.lane_bounds.proofs.Homes.{own-after, pending-bound}
+use Rattle.op_model.proofs.Public.{empty-copy}
+use Rattle.one_history.proofs.Public.{IsOn, any-found, any-none, copy-other, copy-same, found, header-other}
+use Rattle.one_history.proofs.Public.{header-same, want-other, want-same}
+use Rattle.lane_bounds.proofs.Public.{IsAllowed, own-after, pending-bound}
 
 -- a set is empty exactly where each line of it has no copy
 pub all-empty : (sizes : Sizes) (share : Share) (line b : ℕ) → is_set_empty sizes share line ≡ true → set_of sizes b ≡ set_of sizes line → is_empty (copy_of share b) ≡ true

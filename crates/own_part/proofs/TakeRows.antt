@@ -7,8 +7,8 @@ use Rattle.op_model.specs.Lines.{LineShare, Outcome, Room, sending, no_message, 
 use Rattle.op_model.specs.OwnPart.{IsOwnLine}
 use Rattle.op_model.specs.Tables.Home.{on_get, on_getx, on_wb, on_rpl, on_shwb, on_fack, on_nakc}
 use Rattle.op_model.specs.Tables.Remote.{on_fwd_get, on_fwd_getx, on_inv, meets, row_of, on_message, on_put, on_putx, asks_well, waits_load, waits_write, is_invalidate, is_forward, is_forward_get, is_forward_getx, gets_elsewhere, getxs_elsewhere}
-use Rattle.op_model.proofs.Plain.{three_parts}
-use Rattle.line_invariant.proofs.Basics.{if-either}
+use Rattle.op_model.proofs.Public.{three_parts}
+use Rattle.line_invariant.proofs.Public.{if-either}
 use Rattle.own_part.proofs.Basics.{all4}
 use Rattle.own_part.proofs.Effects.{IsQuiet, IsEffect, IsKept}
 use Rattle.own_part.proofs.GetRows.{get-keeps, getx-keeps}

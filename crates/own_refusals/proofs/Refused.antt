@@ -19,13 +19,11 @@ use Rattle.op_model.specs.Shares.{Charge, Share, first_header, header_of, is_lin
 use Rattle.op_model.specs.Tables.Home.{lacks_link, on_get, wants_victim}
 use Rattle.op_model.specs.Tables.Processor.{call_in, holds_link}
 use Rattle.op_model.specs.Tables.Remote.{meets, on_message, row_of}
-use Rattle.op_model.proofs.Plain.{three_parts, and_above_one, above_one}
-use Rattle.line_invariant.proofs.Basics.{if-either}
-use Rattle.one_history.proofs.Events.{header-kept, refuses}
-use Rattle.one_history.proofs.Shares.{header-same}
+use Rattle.op_model.proofs.Public.{above_one, and_above_one, three_parts}
+use Rattle.line_invariant.proofs.Public.{if-either}
+use Rattle.one_history.proofs.Public.{header-kept, header-same, refuses}
 use Rattle.link_refusals.specs.Refusals.{refuses_link}
-use Rattle.link_refusals.proofs.Entries.{Found, found}
-use Rattle.link_refusals.proofs.Reasons.{IsReason, refuses_row, why-refused}
+use Rattle.link_refusals.proofs.Public.{Found, IsReason, found, refuses_row, why-refused}
 use Rattle.own_refusals.specs.OwnLinks.{HasLinkPending}
 
 -- a row refuses where its messages do

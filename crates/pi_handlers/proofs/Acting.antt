@@ -13,7 +13,7 @@ use Rattle.op_model.specs.Shares.{Charge, Share, first_header, copy_of, header_o
 use Rattle.op_model.specs.Tables.Processor.{serves, done_on, hit, ask, begin_op, begin_at_home}
 use Rattle.op_model.specs.Events.Node.{Input, HitNext, IssueNext, NodeOutcome, local, by_row, with_next, hit_next, issue_next, map_ok, is_outstanding, permit}
 use Rattle.op_model.specs.Programs.{IsProgramOf}
-use Rattle.op_model.proofs.Plain.{some_held}
+use Rattle.op_model.proofs.Public.{some_held}
 use Rattle.cpu_cache.specs.Effects.{effect_of, nothing, own_effect}
 use Rattle.cpu_cache.specs.declared.effects.Effect.{Effect}
 use Rattle.cpu_cache.specs.Caches.{CacheView, with_copy, is_set_taken}
@@ -21,9 +21,7 @@ use Rattle.cpu_cache.specs.Processors.{ProcView}
 use Rattle.msg_words.specs.SendList.{SendList}
 use Rattle.node_share.specs.Parts.{share_of, row_at, AreHeaders, DoesRow}
 use Rattle.node_share.specs.Effects.{Acts, Begins}
-use Rattle.node_share.proofs.Homes.{put-same}
-use Rattle.node_share.proofs.Rows.{row-share}
-use Rattle.node_share.proofs.Wants.{sent-none, effect-none, effect-own}
+use Rattle.node_share.proofs.Public.{effect-none, effect-own, put-same, row-share, sent-none}
 
 outstanding : (want : Option Want) → is_some want ≡ true → is_outstanding want ≡ true
 outstanding None e = cc

@@ -23,10 +23,8 @@ use Rattle.dir_header.specs.HomeSides.{HomeView, header_at, with_header, made_pe
 use Rattle.msg_words.specs.SendList.{SendList}
 use Rattle.node_share.specs.Parts.{share_of, AreCopies, DoesRow, sent, copy_done}
 use Rattle.node_share.specs.Effects.{Begins}
-use Rattle.node_share.proofs.Copies.{copy-kept}
-use Rattle.node_share.proofs.Homes.{Puts, puts-once, puts-then, puts-read}
-use Rattle.node_share.proofs.Rows.{own-row, away-row}
-use Rattle.node_share.proofs.Wants.{sent-none, effect-none, effect-own, done-load, done-write}
+use Rattle.node_share.proofs.Public.{Puts, away-row, copy-kept, done-load, done-write, effect-none}
+use Rattle.node_share.proofs.Public.{effect-own, own-row, puts-once, puts-read, puts-then, sent-none}
 use Rattle.pi_handlers.proofs.Rows.{begin-get, begin-getx, begin-load, begin-write, begin-called}
 
 -- the processor that has begun its next operation

@@ -11,7 +11,7 @@ use Rattle.op_model.specs.Lines.{Header, LineShare, Outcome, Room, is_idle, is_p
 use Rattle.op_model.specs.OwnPart.{IsOwnLine, IsOwnWait}
 use Rattle.op_model.specs.Events.Node.{permit}
 use Rattle.op_model.specs.Tables.Processor.{begin_at_home, load_at_home, write_at_home, invalidate_for_home, forward_get_home, forward_getx_home, serves}
-use Rattle.op_model.proofs.Shares.{unserved-shared, idle-wait}
+use Rattle.op_model.proofs.Public.{idle-wait, unserved-shared}
 
 module _ (node : ℕ) (room : Room) (op : Op) (share : LineShare) where
   pub begin-pending : is_idle share.header.wait ≡ false → begin_at_home node room op share ≡ Err HeldPending

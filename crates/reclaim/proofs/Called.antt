@@ -17,13 +17,11 @@ use Rattle.op_model.specs.Tables.Processor.{reclaim, call_in, holds_link}
 use Rattle.cpu_cache.specs.Processors.{ProcView}
 use Rattle.op_model.specs.Shares.{is_linked, Copies, copy_in}
 use Rattle.dir_header.specs.Sharers.{Directory, Charge, Linked, Unlinked, free_in, list_at, held_by}
-use Rattle.dir_header.proofs.Directories.{held-linked}
+use Rattle.dir_header.proofs.Public.{held-linked}
 use Rattle.dir_header.specs.HomeSides.{HomeView, IsHome, room_in, header_at, with_header, made_pending}
 use Rattle.msg_words.specs.SendList.{SendList}
 use Rattle.node_share.specs.Parts.{share_of, AreCopies, DoesRow, sent}
-use Rattle.node_share.proofs.Copies.{copy-kept}
-use Rattle.node_share.proofs.Homes.{on-ok, Puts, puts-once, puts-read}
-use Rattle.node_share.proofs.Rows.{home-row}
+use Rattle.node_share.proofs.Public.{Puts, copy-kept, home-row, on-ok, puts-once, puts-read}
 
 module _ (room : Room) (share : LineShare) where
   pub no-links : holds_link room share.header ≡ false → reclaim room share ≡ Err NoLinks

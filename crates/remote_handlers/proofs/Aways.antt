@@ -10,16 +10,14 @@ use Rattle.op_model.specs.Lines.{Copy, Absent, Shared, Exclusive, LineShare, NoS
 use Rattle.op_model.specs.Shares.{copy_of, line_share, want_on, want_after, copy_in, Headers}
 use Rattle.op_model.specs.Events.Node.{messages}
 use Rattle.op_model.specs.Tables.Remote.{on_fwd_get, on_fwd_getx, on_inv, gone}
-use Rattle.op_model.proofs.Shares.{want-stays}
+use Rattle.op_model.proofs.Public.{want-stays}
 use Rattle.cpu_cache.specs.Effects.{effect_of, nothing, load_by}
 use Rattle.cpu_cache.specs.declared.effects.Effect.{Effect}
 use Rattle.cpu_cache.specs.Caches.{CacheView, with_copy}
 use Rattle.cpu_cache.specs.Processors.{ProcView}
 use Rattle.msg_words.specs.SendList.{SendList}
 use Rattle.node_share.specs.Parts.{share_of, row_at, sent, AreCopies, DoesRow}
-use Rattle.node_share.proofs.Copies.{copy-kept}
-use Rattle.node_share.proofs.Rows.{away-row}
-use Rattle.node_share.proofs.Wants.{effect-none, effect-for}
+use Rattle.node_share.proofs.Public.{away-row, copy-kept, effect-for, effect-none}
 
 -- the messages of an answer, and of a report to the home where it isn't the requester
 sends-are : (line home req : ℕ) (b : Bool) (words report : Content) → messages line (cond b ((home, words) ∷ []) ((req, words) ∷ (home, report) ∷ [])) ≡ cond b (messages line ((home, words) ∷ [])) (messages line ((req, words) ∷ (home, report) ∷ []))

@@ -16,10 +16,8 @@ use Rattle.cpu_cache.specs.Processors.{ProcView}
 use Rattle.dir_header.specs.HomeSides.{HomeView, header_at, with_header, relisted}
 use Rattle.msg_words.specs.SendList.{SendList}
 use Rattle.node_share.specs.Parts.{share_of, row_at, AreCopies, DoesRow, copy_done}
-use Rattle.node_share.proofs.Copies.{copy-kept}
-use Rattle.node_share.proofs.Homes.{Puts, puts-once, puts-then}
-use Rattle.node_share.proofs.Rows.{own-row, away-row, at-home, is-away}
-use Rattle.node_share.proofs.Wants.{sent-none, want-is, want-gone, done-write, effect-load, effect-own}
+use Rattle.node_share.proofs.Public.{Puts, at-home, away-row, copy-kept, done-write, effect-load, effect-own}
+use Rattle.node_share.proofs.Public.{is-away, own-row, puts-once, puts-then, sent-none, want-gone, want-is}
 
 nothing_sent : SendList
 nothing_sent = record { list = []; room = 0 }

@@ -10,7 +10,7 @@ use Rattle.op_model.specs.Lines.{Copy, Absent, Shared, Exclusive, LineShare, Out
 use Rattle.op_model.specs.Shares.{Share, copy_of, line_share}
 use Rattle.op_model.specs.Events.Node.{NodeOutcome, bind, by_row, departs, evict_line, is_silent, permit}
 use Rattle.op_model.specs.Tables.Processor.{evict, fits, leave_home, leave_remote}
-use Rattle.op_model.proofs.Shares.{fits-copy}
+use Rattle.op_model.proofs.Public.{fits-copy}
 use Rattle.node_share.specs.Parts.{row_at}
 
 pub is-silent : (kind : EvictKind) → is_silent kind ≡ true → kind ≡ way.Silent

@@ -11,15 +11,14 @@ use Rattle.op_model.specs.Shares.{line_share, copy_of, Copies, copy_in, Headers}
 use Rattle.op_model.specs.Events.Node.{messages}
 use Rattle.op_model.specs.Tables.Home.{on_rpl}
 use Rattle.op_model.specs.Tables.Processor.{leave_home, leave_remote}
-use Rattle.op_model.proofs.Shares.{want-stays}
+use Rattle.op_model.proofs.Public.{want-stays}
 use Rattle.cpu_cache.specs.Caches.{CacheView, with_copy}
 use Rattle.cpu_cache.specs.Processors.{ProcView}
 use Rattle.dir_header.specs.HomeSides.{HomeView, header_at, with_header, unlisted}
 use Rattle.msg_words.specs.SendList.{SendList}
 use Rattle.node_share.specs.Parts.{share_of, row_at, AreCopies, AreHeaders, DoesRow, sent}
-use Rattle.node_share.proofs.Homes.{puts-once, puts-then, puts-none}
-use Rattle.node_share.proofs.Rows.{home-row, header-row, away-row}
-use Rattle.node_share.proofs.Wants.{sent-none}
+use Rattle.node_share.proofs.Public.{away-row, header-row, home-row, puts-none, puts-once, puts-then}
+use Rattle.node_share.proofs.Public.{sent-none}
 
 exclusive-row : (copy : Copy) (share : LineShare) → is_exclusive copy ≡ true → leave_home copy share ≡ sending (record share { copy = Absent; header = record share.header { local = false; dirty = false; memory = words_of copy } }) no_message
 exclusive-row Absent share e = cc

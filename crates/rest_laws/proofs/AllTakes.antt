@@ -11,7 +11,7 @@ use Rattle.op_model.specs.Run.Runs.{Past, run}
 use Rattle.op_model.specs.Run.Weight.{weight}
 use Rattle.op_model.specs.Shares.{Charge, Trace, program}
 use Rattle.node_range.specs.Range.{IsOfMachine}
-use Rattle.node_range.proofs.Events.{ranged_lanes}
+use Rattle.node_range.proofs.Public.{ranged_lanes}
 use Rattle.rest_laws.proofs.Falls.{falling_weight}
 
 pub falling_take : (charge : Charge) (trace : Trace) (events : List Event) (past : Past) (src dst : ℕ) (class : Class) (victim : Option ℕ) (done : Done) → IsOfMachine trace → 0 < trace.sizes.words → run charge trace events ≡ Some past →

@@ -13,16 +13,13 @@ use Rattle.op_model.specs.Run.Rest.{IsAtRest}
 use Rattle.op_model.specs.Run.Runs.{Past, run}
 use Rattle.op_model.specs.Run.Weight.{IsClear, IsEmpty}
 use Rattle.op_model.specs.Shares.{Charge, Trace, State, header_of, want_on}
-use Rattle.op_model.proofs.Plain.{eqb-self}
+use Rattle.op_model.proofs.Public.{eqb-self}
 use Rattle.one_history.specs.Project.{of_line, project, line_words}
 use Rattle.one_history.specs.Sound.{IsSound, answered_of}
-use Rattle.lane_bounds.proofs.Homes.{one_if}
-use Rattle.lane_bounds.proofs.Kept.{IsBounded}
-use Rattle.lane_bounds.proofs.Runs.{bounded-run}
-use Rattle.lane_bounds.proofs.Sums.{over, over-cons}
-use Rattle.link_refusals.proofs.Entries.{Found, found}
+use Rattle.lane_bounds.proofs.Public.{IsBounded, bounded-run, one_if, over, over-cons}
+use Rattle.link_refusals.proofs.Public.{Found, found}
 use Rattle.node_range.specs.Range.{IsOfMachine, IsRanged}
-use Rattle.node_range.proofs.Events.{ranged-run}
+use Rattle.node_range.proofs.Public.{ranged-run}
 use Rattle.rest_laws.proofs.Links.{entry-own, header-found}
 use Rattle.rest_laws.proofs.Quiet.{quiet-header, quiet-want}
 

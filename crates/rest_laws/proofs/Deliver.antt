@@ -11,10 +11,8 @@ use Rattle.op_model.specs.Run.Schedules.{Lane, first_busy, delivery}
 use Rattle.op_model.specs.Run.Weight.{weight, IsClear}
 use Rattle.op_model.specs.Shares.{Charge, Trace, State, program}
 use Rattle.one_history.specs.Sound.{IsSound}
-use Rattle.one_history.proofs.Events.{keeps-event}
-use Rattle.lane_bounds.proofs.Events.{bounded-event}
-use Rattle.lane_bounds.proofs.Kept.{IsBounded}
-use Rattle.lane_bounds.proofs.Runs.{bounded-run}
+use Rattle.one_history.proofs.Public.{keeps-event}
+use Rattle.lane_bounds.proofs.Public.{IsBounded, bounded-event, bounded-run}
 use Rattle.node_range.specs.Range.{IsOfMachine}
 use Rattle.rest_laws.specs.Delivery.{Delivery, IsDelivered}
 use Rattle.rest_laws.proofs.AtRest.{resting_clear}

@@ -18,7 +18,7 @@ use Rattle.op_model.specs.Messages.{msg_line}
 use Rattle.op_model.specs.Run.Runs.{Past, run}
 use Rattle.op_model.specs.Run.Schedules.{least_victim, victim_for, delivery}
 use Rattle.op_model.specs.Shares.{Charge, Share, State, Trace, program}
-use Rattle.lane_bounds.proofs.Runs.{bounded-run}
+use Rattle.lane_bounds.proofs.Public.{bounded-run}
 use Rattle.rest_laws.proofs.Links.{KeepsOwn, victim-there}
 use Rattle.rest_laws.proofs.Lists.{search, range-each}
 

@@ -18,13 +18,12 @@ use Rattle.op_model.specs.Run.Weight.{weight, weight_of}
 use Rattle.op_model.specs.Shares.{Charge, State, Trace, copy_of, header_of, program, room_of, share_at}
 use Rattle.op_model.specs.Tables.Home.{wants_victim}
 use Rattle.op_model.specs.Tables.Processor.{call_in, holds_link}
-use Rattle.op_model.proofs.Plain.{three_parts}
+use Rattle.op_model.proofs.Public.{three_parts}
 use Rattle.one_history.specs.Project.{project}
 use Rattle.one_history.specs.Sound.{IsSound}
-use Rattle.one_history.proofs.Events.{refuses}
-use Rattle.lane_bounds.proofs.Acts.{after_act, after_row_of, row-kept, taken_of}
-use Rattle.lane_bounds.proofs.Effects.{asks_victim, each-taken, is_fit, row_at}
-use Rattle.lane_bounds.proofs.Runs.{bounded-run}
+use Rattle.one_history.proofs.Public.{refuses}
+use Rattle.lane_bounds.proofs.Public.{after_act, after_row_of, asks_victim, bounded-run, each-taken, is_fit}
+use Rattle.lane_bounds.proofs.Public.{row-kept, row_at, taken_of}
 use Rattle.rest_laws.proofs.Lighter.{message-below, refused-below}
 use Rattle.rest_laws.proofs.Sends.{sends-listed}
 use Rattle.rest_laws.proofs.Weights.{weight-sent, weight-taken}

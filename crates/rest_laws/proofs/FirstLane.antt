@@ -9,7 +9,7 @@ use Rattle.op_model.specs.declared.messages.Msg.{Msg}
 use Rattle.op_model.specs.Run.Schedules.{Lane, both_lanes, all_nodes, lanes_in_order, is_no_message, first_busy}
 use Rattle.op_model.specs.Run.Weight.{IsClear}
 use Rattle.op_model.specs.Shares.{State}
-use Rattle.op_model.proofs.Shares.{no_message-empty}
+use Rattle.op_model.proofs.Public.{no_message-empty}
 use Rattle.rest_laws.proofs.Lists.{Each, find-some, find-none, each-flat, flat-each, each-range, range-each}
 
 -- a lane between nodes of the machine

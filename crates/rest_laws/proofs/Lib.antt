@@ -12,3 +12,4 @@ pub mod Quiet
 pub mod AtRest
 pub mod Deliver
 pub mod Scheduled
+pub mod Public

@@ -14,8 +14,8 @@ use Rattle.op_model.specs.Nodes.{Nodes, listed, listings, unlist}
 use Rattle.op_model.specs.Run.Weight.{weight_of}
 use Rattle.op_model.specs.Tables.Home.{grant, grantee_of, lacks_link, no_other, on_fack, on_get, on_getx, on_inv_ack, on_nakc, on_rpl, on_shwb, on_wb, wants_victim}
 use Rattle.op_model.specs.Tables.Remote.{meets, on_fwd_get, on_fwd_getx, on_inv, on_message, on_nak, on_put, on_putx, row_of}
-use Rattle.op_model.proofs.Plain.{second_of_four}
-use Rattle.line_invariant.proofs.Basics.{if-either}
+use Rattle.op_model.proofs.Public.{second_of_four}
+use Rattle.line_invariant.proofs.Public.{if-either}
 use Rattle.rest_laws.proofs.Sends.{sends-cons, sends-listed, sends-none, sends_weight}
 
 module _ (nodes : ℕ) where

@@ -17,8 +17,8 @@ use Rattle.op_model.specs.Nodes.{listed, count}
 use Rattle.op_model.specs.Shares.{Charge, is_linked, Share, header_of, first_header, line_share, room_of, links_in, links_among, header_in}
 use Rattle.op_model.specs.Tables.Home.{wants_victim}
 use Rattle.op_model.specs.Tables.Processor.{holds_link}
-use Rattle.lane_bounds.proofs.Sums.{over, over-cons}
-use Rattle.link_refusals.proofs.Entries.{Found, found}
+use Rattle.lane_bounds.proofs.Public.{over, over-cons}
+use Rattle.link_refusals.proofs.Public.{Found, found}
 
 -- an entry with something, where the sum isn't 0
 some-entry : {X : Type 0} (f : X → ℕ) (es : List (ℕ × X)) → 0 < over f es → list_any (λ e. nat_lt 0 (f e.1)) es ≡ true

@@ -14,7 +14,7 @@ use Rattle.op_model.specs.Lines.{Copy, Header, is_pending}
 use Rattle.op_model.specs.Messages.{Content, Put, PutX}
 use Rattle.op_model.specs.Nodes.{Nodes, count, count-none, in_order, in_order-once, listed, listed-none, none, same_nodes, times}
 use Rattle.op_model.specs.Operations.{Words}
-use Rattle.op_model.proofs.Plain.{eqb-self}
+use Rattle.op_model.proofs.Public.{eqb-self}
 use Rattle.line_invariant.specs.Good.{IsUsual, IsWaiting, Answered, Asked, Asking, AskingX, Bare, Called, Carrier, Clean, Duty, Forwarded, Granted, Handed, HandedOn, Holds, HomeOwns, IsCarried, IsGood, IsGoodHeader, IsGrantee, IsHomeCarrier, IsOnDuty, NoDuty, Owned, Phase, Recalled, Refused, Resting, Returned, SharedOut, ToGive, Usual, answer_part, asked_role, asking_part, expected, leaving_part, reply_part, role_in, told_part}
 use Rattle.line_invariant.specs.Line.{Line}
 

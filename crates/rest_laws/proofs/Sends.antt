@@ -10,10 +10,10 @@ use Rattle.op_model.specs.Lines.{to_listed}
 use Rattle.op_model.specs.Messages.{Content, Inv, class_of, same_class}
 use Rattle.op_model.specs.Nodes.{Nodes, in_order, listed}
 use Rattle.op_model.specs.Run.Weight.{total}
-use Rattle.op_model.proofs.Plain.{total-zero, total-add}
+use Rattle.op_model.proofs.Public.{total-add, total-zero}
 use Rattle.line_invariant.specs.Line.{addressed}
-use Rattle.line_invariant.proofs.HomeLanes.{addressed-listed, no-replies}
-use Rattle.lane_bounds.proofs.Sums.{contents-cons}
+use Rattle.line_invariant.proofs.Public.{addressed-listed, no-replies}
+use Rattle.lane_bounds.proofs.Public.{contents-cons}
 use Rattle.rest_laws.proofs.Totals.{total-at, total-const, total-le, total-one, total-same}
 
 module _ (w : Content → ℕ) (nodes : ℕ) where

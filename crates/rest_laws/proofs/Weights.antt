@@ -10,12 +10,9 @@ use Rattle.op_model.specs.declared.messages.Msg.{Msg}
 use Rattle.op_model.specs.Messages.{Content, msg_content, same_class}
 use Rattle.op_model.specs.Run.Weight.{total}
 use Rattle.op_model.specs.Shares.{Lanes}
-use Rattle.op_model.proofs.Plain.{eqb-self, total-zero, total-add}
-use Rattle.op_model.proofs.Shares.{same_class-is}
+use Rattle.op_model.proofs.Public.{eqb-self, same_class-is, total-add, total-zero}
 use Rattle.line_invariant.specs.Line.{addressed}
-use Rattle.lane_bounds.proofs.Acts.{sent_of, taken_of}
-use Rattle.lane_bounds.proofs.Lanes.{weighed-sent}
-use Rattle.lane_bounds.proofs.Sums.{weighed, weighed-cons}
+use Rattle.lane_bounds.proofs.Public.{sent_of, taken_of, weighed, weighed-cons, weighed-sent}
 use Rattle.rest_laws.proofs.Sends.{sends_weight, sent_to}
 use Rattle.rest_laws.proofs.Totals.{total-at, total-le, total-one, total-same}
 

@@ -1,3 +1,4 @@
 pub mod Sets
 pub mod Maps
 pub mod Evictions
+pub mod Public

@@ -7,7 +7,7 @@ use Rattle.std.proofs.lemmas.Bool.Decides.{nat_tests}
 use Rattle.op_model.specs.declared.events.Class.{Class}
 use Rattle.op_model.specs.Messages.{same_class, msg_class}
 use Rattle.op_model.specs.Events.Step.{one_off}
-use Rattle.op_model.proofs.Shares.{same_class-is, same_class-self}
+use Rattle.op_model.proofs.Public.{same_class-is, same_class-self}
 use Rattle.chart_strokes.specs.declared.strokes.Letter.{Letter}
 use Rattle.run_chart.specs.Charts.{is_in_lane, in_lane}
 use Rattle.run_chart.proofs.Filtered.{filter-remove_other, filter-remove_first, filter-none}

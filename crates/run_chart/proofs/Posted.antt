@@ -11,8 +11,7 @@ use Rattle.op_model.specs.declared.events.Class.TheVariants.{Request, Reply}
 use Rattle.op_model.specs.declared.messages.Msg.{Msg}
 use Rattle.op_model.specs.Messages.{same_class, msg_class}
 use Rattle.op_model.specs.Shares.{Lanes}
-use Rattle.op_model.proofs.Plain.{take-next}
-use Rattle.op_model.proofs.Shares.{same_class-is}
+use Rattle.op_model.proofs.Public.{same_class-is, take-next}
 use Rattle.chart_strokes.specs.declared.strokes.Letter.{Letter}
 use Rattle.chart_strokes.specs.Strokes.{letter}
 use Rattle.run_chart.specs.Charts.{is_in_lane, in_lane}

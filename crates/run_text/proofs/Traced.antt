@@ -8,7 +8,7 @@ use Rattle.op_model.specs.Shares.{Trace, Linked}
 use Rattle.line_map.specs.Sizes.{Sizes}
 use Rattle.lane_table.specs.Setups.{Setup, run_in}
 use Rattle.trace_text.specs.Traces.{IsTrace, programs_of}
-use Rattle.commands.proofs.Programs.{all-programs}
+use Rattle.commands.proofs.Public.{all-programs}
 use Rattle.commands.specs.Journaled.{Runs}
 
 pub runs-traced : (trace : Trace) → IsTrace trace → (setup : Setup) (journal : List Event) (past : Past) → setup.sizes ≡ trace.sizes → setup.programs ≡ programs_of trace → run_in setup journal ≡ Some past → Runs Linked trace journal

@@ -9,7 +9,7 @@ use Rattle.op_model.specs.declared.operations.Op.{Op}
 use Rattle.op_model.specs.Run.Schedules.{current}
 use Rattle.op_model.specs.Shares.{State}
 use Rattle.op_model.specs.Run.Machines.{MachineRun, IsApplied}
-use Rattle.schedule_laws.proofs.Lists.{find-first, find-none_of}
+use Rattle.schedule_laws.proofs.Public.{find-first, find-none_of}
 use Rattle.schedule.specs.Chosen.{AreCompletedTo, AreOpsIn, IsOpIn}
 use Rattle.schedule.proofs.Places.{places-rise}
 

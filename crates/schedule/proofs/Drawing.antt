@@ -8,7 +8,7 @@ use Rattle.op_model.specs.Events.Step.{Done, effect}
 use Rattle.op_model.specs.Run.Runs.{Past, past_after}
 use Rattle.op_model.specs.Run.Seeded.{IsDrawn, candidates, is_enabled}
 use Rattle.op_model.specs.Run.Machines.{MachineRun, IsRunning, effect_on, with_event, IsApplied, IsEnabled, IsEventOf}
-use Rattle.op_model.proofs.Plain.{filter-passes}
+use Rattle.op_model.proofs.Public.{filter-passes}
 use Rattle.rand_pcg.specs.Lcg.{Lcg}
 use Rattle.rand_pcg.specs.Pcg.{pcg32}
 use Rattle.schedule.specs.Candidates.{candidates_on}

@@ -7,10 +7,10 @@ use Rattle.op_model.specs.Run.Schedules.{finishing_next}
 use Rattle.op_model.specs.Run.Weight.{weight}
 use Rattle.op_model.specs.Shares.{Trace, program}
 use Rattle.op_model.specs.Run.Machines.{MachineRun, IsRunning}
-use Rattle.node_range.proofs.Traces.{turn_of, turn-programs}
+use Rattle.node_range.proofs.Public.{turn-programs, turn_of}
 use Rattle.schedule_laws.specs.Courses.{IsCourse, left_count}
 use Rattle.schedule_laws.specs.Ends.{FinishingRun}
-use Rattle.schedule_laws.proofs.Courses.{schedule-course}
+use Rattle.schedule_laws.proofs.Public.{schedule-course}
 use Rattle.schedule.specs.Made.{HasFinished, HasBegun, most_to_finish}
 use Rattle.schedule.proofs.UnderWay.{IsUnderWay, next_on, whole, at-now, at-end}
 

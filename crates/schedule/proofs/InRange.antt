@@ -17,10 +17,9 @@ use Rattle.op_model.specs.Run.Schedules.{Lane, all_nodes, lanes_in_order, other_
 use Rattle.op_model.specs.Run.Seeded.{evictions_of, free_links, is_enabled, lines_of, low_water, processor_candidates, reclaim_of, reclaims_of, room_events, takes_of}
 use Rattle.op_model.specs.Shares.{copy_of}
 use Rattle.op_model.specs.Run.Machines.{MachineRun, IsRunning, IsEventOf}
-use Rattle.op_model.proofs.Plain.{find-passes}
+use Rattle.op_model.proofs.Public.{find-passes}
 use Rattle.node_range.specs.Range.{IsRanged}
-use Rattle.node_range.proofs.Events.{ranged-run}
-use Rattle.node_range.proofs.Traces.{turn-in}
+use Rattle.node_range.proofs.Public.{ranged-run, turn-in}
 use Rattle.schedule.specs.Candidates.{candidates_on}
 use Rattle.schedule.proofs.Finishes.{turn, turn-ran}
 use Rattle.schedule.proofs.LaneOrders.{AllOf, IsLaneIn, lanes-in}

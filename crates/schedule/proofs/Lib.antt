@@ -16,3 +16,4 @@ pub mod InRange
 pub mod Few
 pub mod Drawing
 pub mod SeededRuns
+pub mod Public

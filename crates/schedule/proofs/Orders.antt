@@ -4,8 +4,8 @@ use Rattle.std.specs.Prelude.{slice_get, count_by, take}
 use Rattle.op_model.specs.declared.operations.Op.{Op}
 use Rattle.op_model.specs.Events.Step.{Programs}
 use Rattle.op_model.specs.Programs.{IsOrderOf}
-use Rattle.op_model.proofs.Plain.{eqb-self}
-use Rattle.schedule_laws.proofs.Lists.{slice_get-filter}
+use Rattle.op_model.proofs.Public.{eqb-self}
+use Rattle.schedule_laws.proofs.Public.{slice_get-filter}
 
 pub op-at : (programs : Programs) (order : List Op) → IsOrderOf programs order → (i : ℕ) (op : Op) → slice_get order i ≡ Some op →
     slice_get (programs op.node) (count_by (λ (o : Op). o.node == op.node) (take i order)) ≡ Some op

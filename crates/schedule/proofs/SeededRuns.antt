@@ -11,15 +11,13 @@ use Rattle.op_model.specs.Run.Seeded.{IsRandomNext, IsSeeded, most_drawn}
 use Rattle.op_model.specs.Shares.{Charge, Trace, program}
 use Rattle.node_range.specs.Range.{IsOfMachine}
 use Rattle.node_range.specs.Traces.{IsTraceOf}
-use Rattle.node_range.proofs.Traces.{trace-programs, turn-in, turn-programs}
-use Rattle.rest_laws.proofs.Deliver.{run-on}
+use Rattle.node_range.proofs.Public.{trace-programs, turn-in, turn-programs}
+use Rattle.rest_laws.proofs.Public.{run-on}
 use Rattle.seeded_laws.specs.Answers.{chosen_by}
 use Rattle.seeded_laws.specs.Command.{IsSeededRun, modulo, word_of}
 use Rattle.seeded_laws.specs.Drawing.{AreDrawn}
-use Rattle.seeded_laws.proofs.Commands.{always-chosen}
-use Rattle.seeded_laws.proofs.Drawn.{AlwaysAnswers, Drawn, drawn-chosen, drawn-run, draws}
-use Rattle.seeded_laws.proofs.Finishing.{finish-ends}
-use Rattle.seeded_laws.proofs.Seeded.{made-seeded}
+use Rattle.seeded_laws.proofs.Public.{AlwaysAnswers, Drawn, always-chosen, drawn-chosen, drawn-run, draws}
+use Rattle.seeded_laws.proofs.Public.{finish-ends, made-seeded}
 use Rattle.schedule.specs.Candidates.{candidates_on}
 use Rattle.schedule.specs.Draws.{HasBegunSeeded, HasDrawn, HasDrawnAll, IsSeededTo}
 use Rattle.schedule.specs.Made.{HasBegun, HasFinished, gone_on}

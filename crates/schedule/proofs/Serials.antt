@@ -12,10 +12,10 @@ use Rattle.op_model.specs.Run.Schedules.{IsSchedule, IsScheduleFrom, IsSerial, s
 use Rattle.op_model.specs.Shares.{Charge, Trace, program}
 use Rattle.op_model.specs.Run.Machines.{MachineRun, IsRunning}
 use Rattle.op_model.specs.Programs.{IsOrderOf}
-use Rattle.node_range.proofs.Traces.{trace_in, order-programs, order-in}
+use Rattle.node_range.proofs.Public.{order-in, order-programs, trace_in}
 use Rattle.schedule_laws.specs.Courses.{IsCourse}
 use Rattle.schedule_laws.specs.Ends.{IsInOrder, SerialRun}
-use Rattle.schedule_laws.proofs.Courses.{schedule-course}
+use Rattle.schedule_laws.proofs.Public.{schedule-course}
 use Rattle.schedule.specs.Chosen.{AreOpsIn}
 use Rattle.schedule.specs.Made.{HasBegunSerial, IsSerialBy, IsSerialRun, most_for_one}
 use Rattle.schedule.proofs.Finishes.{IsEnd}

@@ -10,7 +10,7 @@ use Rattle.op_model.specs.Run.Runs.{Past, past_after, run_by, start}
 use Rattle.op_model.specs.Run.Schedules.{IsScheduleFrom}
 use Rattle.op_model.specs.Run.Machines.{MachineRun, IsRunning, effect_on, with_event, IsApplied, IsEnabled}
 use Rattle.schedule_laws.specs.Courses.{IsCourse}
-use Rattle.schedule_laws.proofs.Courses.{course-append, course-run, course-schedule}
+use Rattle.schedule_laws.proofs.Public.{course-append, course-run, course-schedule}
 use Rattle.schedule.specs.Made.{gone_on}
 
 abbrev pub Schedule : Type 0

@@ -8,9 +8,8 @@ use Rattle.line_map.specs.Sizes.{Sizes, set_of}
 use Rattle.op_model.specs.Lines.{Absent, Copy, is_empty}
 use Rattle.op_model.specs.Run.Schedules.{other_in_set}
 use Rattle.op_model.specs.Shares.{Share, conflicts, copy_of}
-use Rattle.op_model.proofs.Shares.{empty-copy}
-use Rattle.op_model.proofs.Plain.{find-passes}
-use Rattle.one_history.proofs.Sets.{any-none, none-conflicts}
+use Rattle.op_model.proofs.Public.{empty-copy, find-passes}
+use Rattle.one_history.proofs.Public.{any-none, none-conflicts}
 
 find-nothing : {X : Type 0} (p : X → Bool) (xs : List X) → ((x : X) → p x ≡ false) → find p xs ≡ None
 find-nothing p [] fails = refl

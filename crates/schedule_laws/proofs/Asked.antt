@@ -14,11 +14,10 @@ use Rattle.op_model.specs.Shares.{Charge, State, Trace, copy_of, share_at}
 use Rattle.op_model.specs.Tables.Home.{on_get, on_getx}
 use Rattle.op_model.specs.Tables.Processor.{serves}
 use Rattle.op_model.specs.Tables.Remote.{meets, on_message, row_of}
-use Rattle.line_invariant.proofs.Basics.{owner-only}
-use Rattle.one_history.proofs.RowMet.{meets-whole}
-use Rattle.one_history.proofs.Shares.{of_line-front}
+use Rattle.line_invariant.proofs.Public.{owner-only}
+use Rattle.one_history.proofs.Public.{meets-whole, of_line-front}
 use Rattle.one_history.specs.Project.{of_line}
-use Rattle.lane_bounds.proofs.Acts.{after_row_of, sent_of}
+use Rattle.lane_bounds.proofs.Public.{after_row_of, sent_of}
 use Rattle.schedule_laws.proofs.Known.{Delivers, IsKnown, IsUsual}
 use Rattle.schedule_laws.proofs.Recalls.{header_at}
 use Rattle.schedule_laws.proofs.RestLines.{IsRestLine}

@@ -16,11 +16,9 @@ use Rattle.op_model.specs.Run.Runs.{Past}
 use Rattle.op_model.specs.Shares.{Charge, Share, State, Trace, conflicts, copy_of, header_of, line_share, program, room_of, share_at}
 use Rattle.op_model.specs.Tables.Processor.{begin_op, evict, hit, serves}
 use Rattle.line_invariant.specs.Rows.{with_header, with_header_ok}
-use Rattle.line_invariant.proofs.Away.{away-begin, away-evict}
-use Rattle.one_history.proofs.Events.{hit-away}
-use Rattle.one_history.proofs.Owns.{IsOwn, at-home, own-row}
-use Rattle.lane_bounds.proofs.Acts.{just}
-use Rattle.lane_bounds.proofs.Effects.{IsActOf, row-just}
+use Rattle.line_invariant.proofs.Public.{away-begin, away-evict}
+use Rattle.one_history.proofs.Public.{IsOwn, at-home, hit-away, own-row}
+use Rattle.lane_bounds.proofs.Public.{IsActOf, just, row-just}
 use Rattle.schedule_laws.proofs.Known.{IsKnown, IsUsual}
 
 -- what a row does by the home's header, it does by the node's own share

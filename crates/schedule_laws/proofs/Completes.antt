@@ -13,9 +13,8 @@ use Rattle.op_model.specs.Messages.{Content, Get, GetX, FwdGet, FwdGetX, Inv, Wb
 use Rattle.op_model.specs.Run.Runs.{Past}
 use Rattle.op_model.specs.Run.Schedules.{Lane, first_busy, delivery}
 use Rattle.op_model.specs.Shares.{Charge, Trace, State, copy_of, program, room_of, share_at}
-use Rattle.lane_bounds.proofs.Acts.{Act, after_act, after_row_of, taken_of}
-use Rattle.lane_bounds.proofs.Effects.{each-taken, row_at}
-use Rattle.rest_laws.proofs.FirstLane.{first-some}
+use Rattle.lane_bounds.proofs.Public.{Act, after_act, after_row_of, each-taken, row_at, taken_of}
+use Rattle.rest_laws.proofs.Public.{first-some}
 use Rattle.schedule_laws.specs.Courses.{naks_sent}
 use Rattle.schedule_laws.proofs.Settled.{AllSettle, IsSettling, message-settles, settles}
 use Rattle.schedule_laws.proofs.Settling.{IsCompleting, Settles, completing-after, left_over, less-left}

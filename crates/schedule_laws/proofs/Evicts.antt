@@ -23,12 +23,10 @@ use Rattle.op_model.specs.Shares.{Charge, Share, State, Trace, copy_of, put_shar
 use Rattle.op_model.specs.Tables.Home.{on_rpl, on_wb}
 use Rattle.op_model.specs.Tables.Processor.{evict, fits, leave_home, leave_remote}
 use Rattle.op_model.specs.Tables.Remote.{meets, on_message, row_of}
-use Rattle.line_invariant.proofs.Basics.{if-either}
-use Rattle.one_history.proofs.Shares.{copy-other, copy-same}
-use Rattle.one_history.proofs.Moves.{put-stays}
-use Rattle.lane_bounds.proofs.Acts.{after_row_of, sent_of, taken_of}
-use Rattle.lane_bounds.proofs.Effects.{asks_victim, row_at}
-use Rattle.rest_laws.proofs.AtRest.{rests}
+use Rattle.line_invariant.proofs.Public.{if-either}
+use Rattle.one_history.proofs.Public.{copy-other, copy-same, put-stays}
+use Rattle.lane_bounds.proofs.Public.{after_row_of, asks_victim, row_at, sent_of, taken_of}
+use Rattle.rest_laws.proofs.Public.{rests}
 use Rattle.schedule_laws.specs.Courses.{is_any_nak}
 use Rattle.schedule_laws.proofs.Begins.{IsMade, evict-made}
 use Rattle.schedule_laws.proofs.Known.{Delivers, IsKnown, IsNoNak, IsUsual}

@@ -12,8 +12,7 @@ use Rattle.op_model.specs.Run.Schedules.{Lane, all_nodes, delivery, finishing_ne
 use Rattle.op_model.specs.Run.Weight.{weight}
 use Rattle.op_model.specs.Shares.{Charge, State, Trace, program}
 use Rattle.rest_laws.specs.Delivery.{Delivery, IsDelivered}
-use Rattle.rest_laws.proofs.Deliver.{delivered-run, delivery_rests, run-on}
-use Rattle.rest_laws.proofs.FirstLane.{clear-none}
+use Rattle.rest_laws.proofs.Public.{clear-none, delivered-run, delivery_rests, run-on}
 use Rattle.schedule_laws.specs.Courses.{IsCompleted, IsCourse, left_count}
 use Rattle.schedule_laws.specs.Ends.{AreAllDone, FinishingRun}
 use Rattle.schedule_laws.proofs.Completing.{Completes}

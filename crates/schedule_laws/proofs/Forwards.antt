@@ -9,8 +9,7 @@ use Rattle.op_model.specs.Messages.{FwdGet, FwdGetX, message, msg_class}
 use Rattle.op_model.specs.Run.Runs.{Past}
 use Rattle.op_model.specs.Shares.{Charge, State, Trace, copy_of, room_of, share_at}
 use Rattle.op_model.specs.Tables.Remote.{meets, on_fwd_get, on_fwd_getx, on_message, row_of}
-use Rattle.lane_bounds.proofs.Acts.{after_row_of, taken_of}
-use Rattle.lane_bounds.proofs.Effects.{row_at}
+use Rattle.lane_bounds.proofs.Public.{after_row_of, row_at, taken_of}
 use Rattle.schedule_laws.proofs.Completes.{none-naks}
 use Rattle.schedule_laws.proofs.Known.{Delivers, IsKnown, IsUsual}
 use Rattle.schedule_laws.proofs.Requests.{IsHandedOn, forward-row, forwardx-row}

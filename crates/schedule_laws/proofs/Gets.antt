@@ -15,10 +15,9 @@ use Rattle.op_model.specs.Run.Runs.{Past}
 use Rattle.op_model.specs.Shares.{Charge, State, Trace, copy_of, room_of, share_at}
 use Rattle.op_model.specs.Tables.Home.{lacks_link, on_get, on_getx, wants_victim}
 use Rattle.op_model.specs.Tables.Processor.{serves}
-use Rattle.op_model.proofs.Plain.{eqb-self}
-use Rattle.lane_bounds.proofs.Acts.{after_row_of, taken_of}
-use Rattle.lane_bounds.proofs.Effects.{asks_victim, row_at}
-use Rattle.rest_laws.proofs.Sends.{sends-listed, sends_weight}
+use Rattle.op_model.proofs.Public.{eqb-self}
+use Rattle.lane_bounds.proofs.Public.{after_row_of, asks_victim, row_at, taken_of}
+use Rattle.rest_laws.proofs.Public.{sends-listed, sends_weight}
 use Rattle.schedule_laws.proofs.Asked.{headers-kept, met, met-get, met-getx, only-request, owned, share-kept}
 use Rattle.schedule_laws.proofs.Completes.{none-naks}
 use Rattle.schedule_laws.proofs.Forwards.{round-forward, round-forwardx}

@@ -17,10 +17,10 @@ use Rattle.op_model.specs.Run.Schedules.{processor_event}
 use Rattle.op_model.specs.Shares.{Charge, State, Trace, conflicts, copy_of, program, room_of, share_at, want_on}
 use Rattle.op_model.specs.Tables.Home.{lacks_link}
 use Rattle.op_model.specs.Tables.Processor.{ask, begin_at_home, begin_op, serves}
-use Rattle.line_invariant.proofs.Basics.{owner-only}
-use Rattle.lane_bounds.proofs.Acts.{after_row_of, sent_of}
-use Rattle.node_range.proofs.Programs.{next-in}
-use Rattle.rest_laws.proofs.Sends.{sends_weight}
+use Rattle.line_invariant.proofs.Public.{owner-only}
+use Rattle.lane_bounds.proofs.Public.{after_row_of, sent_of}
+use Rattle.node_range.proofs.Public.{next-in}
+use Rattle.rest_laws.proofs.Public.{sends_weight}
 use Rattle.schedule_laws.proofs.Asked.{headers-kept, serves-exclusive, share-kept}
 use Rattle.schedule_laws.proofs.Begins.{issue-made}
 use Rattle.schedule_laws.proofs.Completes.{none-naks}

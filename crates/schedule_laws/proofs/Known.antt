@@ -11,16 +11,11 @@ use Rattle.op_model.specs.Run.Schedules.{Lane, first_busy, delivery}
 use Rattle.op_model.specs.Run.Weight.{IsClear}
 use Rattle.op_model.specs.Shares.{Charge, Trace, State, program}
 use Rattle.one_history.specs.Sound.{IsSound}
-use Rattle.one_history.proofs.Events.{keeps-event}
-use Rattle.lane_bounds.proofs.Acts.{Act}
-use Rattle.lane_bounds.proofs.Effects.{IsActOf, finds}
-use Rattle.lane_bounds.proofs.Events.{bounded-event}
-use Rattle.lane_bounds.proofs.Kept.{IsBounded}
-use Rattle.lane_bounds.proofs.Runs.{bounded-run}
+use Rattle.one_history.proofs.Public.{keeps-event}
+use Rattle.lane_bounds.proofs.Public.{Act, IsActOf, IsBounded, bounded-event, bounded-run, finds}
 use Rattle.node_range.specs.Range.{IsOfMachine, IsRanged}
-use Rattle.node_range.proofs.Events.{ranged-event, ranged-run}
-use Rattle.rest_laws.proofs.Deliver.{delivery-done}
-use Rattle.rest_laws.proofs.FirstLane.{first-none}
+use Rattle.node_range.proofs.Public.{ranged-event, ranged-run}
+use Rattle.rest_laws.proofs.Public.{delivery-done, first-none}
 use Rattle.schedule_laws.specs.Courses.{IsCourse, naks_in, is_any_nak, nak_count, naks_sent}
 use Rattle.schedule_laws.proofs.Courses.{naks-cons}
 use Rattle.schedule_laws.proofs.Under.{AllSent}

@@ -8,7 +8,7 @@ use Rattle.op_model.specs.Events.Step.{Programs}
 use Rattle.op_model.specs.Run.Schedules.{all_nodes, first_left, or_else}
 use Rattle.op_model.specs.Shares.{State, Trace, program}
 use Rattle.node_range.specs.Range.{IsOfMachine}
-use Rattle.node_range.proofs.Programs.{in-program}
+use Rattle.node_range.proofs.Public.{in-program}
 
 -- it is chosen by places alone
 pub left-same : (programs : Programs) (state other : State) (nodes : List ℕ) → ((n : ℕ) → (other.share n).place ≡ (state.share n).place) → first_left programs other nodes ≡ first_left programs state nodes

@@ -35,3 +35,4 @@ pub mod Entries
 pub mod Serials
 pub mod Usual
 pub mod Operations
+pub mod Public

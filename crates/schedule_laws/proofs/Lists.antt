@@ -3,7 +3,7 @@
 use Rattle.std.proofs.Common.{◌≡◌, ℕ, zero, suc, ◌+◌, ◌<◌, ◌≤◌, Bool, true, false, cond, List, [], ◌∷◌, ◌++◌, length, take, refl, ap, arith, ◌∙◌, Option, Some, None}
 use Rattle.std.specs.Prelude.{slice_get, find, filter, count_by}
 use Rattle.std.proofs.lemmas.List.Sums.{sum_by-cons, sum_by-append}
-pub use Rattle.op_model.proofs.Plain.{take-next}
+pub use Rattle.op_model.proofs.Public.{take-next}
 
 -- an index with nothing there, no more than the length, is the length
 pub at-end : {A : Type 0} (xs : List A) (i : ℕ) → slice_get xs i ≡ None → i ≤ length xs → i ≡ length xs

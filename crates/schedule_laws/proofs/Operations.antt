@@ -15,10 +15,10 @@ use Rattle.op_model.specs.Run.Schedules.{eviction_of, lane_or_next, make_room, o
 use Rattle.op_model.specs.Shares.{Charge, State, Trace, conflicts, copy_of, program, room_of, share_at, want_on}
 use Rattle.op_model.specs.Tables.Home.{lacks_link}
 use Rattle.op_model.specs.Tables.Processor.{hit, serves}
-use Rattle.op_model.proofs.Shares.{empty-copy}
+use Rattle.op_model.proofs.Public.{empty-copy}
 use Rattle.one_history.specs.Sound.{IsCached}
-use Rattle.node_range.proofs.Programs.{next-in}
-use Rattle.rest_laws.proofs.FirstLane.{clear-none}
+use Rattle.node_range.proofs.Public.{next-in}
+use Rattle.rest_laws.proofs.Public.{clear-none}
 use Rattle.schedule_laws.specs.Courses.{next_by}
 use Rattle.schedule_laws.proofs.Alone.{IsAlone, absent-other, other-none, other-some}
 use Rattle.schedule_laws.proofs.Begins.{hit-made, hit-missed}

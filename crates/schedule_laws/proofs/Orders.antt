@@ -10,7 +10,7 @@ use Rattle.std.proofs.lemmas.Bool.Decides.{nat_tests}
 use Rattle.op_model.specs.declared.operations.Op.{Op}
 use Rattle.op_model.specs.Run.Schedules.{current}
 use Rattle.op_model.specs.Shares.{State, Trace, program}
-use Rattle.op_model.proofs.Plain.{eqb-self, take-next}
+use Rattle.op_model.proofs.Public.{eqb-self, take-next}
 use Rattle.schedule_laws.specs.Ends.{AreAllDone, IsInOrder}
 use Rattle.schedule_laws.proofs.Lists.{count_by-push, count_by-take_lt, find-first, find-none_of, slice_get-filter}
 

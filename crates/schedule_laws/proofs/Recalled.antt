@@ -11,8 +11,8 @@ use Rattle.op_model.specs.Messages.{Content, Get, GetX, FwdGet, FwdGetX, Inv, Wb
 use Rattle.op_model.specs.Lines.{Absent, Copy, Exclusive, Header, LineShare, Outcome, Room, Shared, is_idle, is_pending, nobody_listed, without_shared}
 use Rattle.op_model.specs.Tables.Home.{grant, grantee_of, on_inv_ack}
 use Rattle.op_model.specs.Tables.Remote.{meets, row_of, on_message, on_inv, on_nak, is_invalidate}
-use Rattle.op_model.proofs.Plain.{last_two_parts}
-use Rattle.line_invariant.proofs.Basics.{if-either}
+use Rattle.op_model.proofs.Public.{last_two_parts}
+use Rattle.line_invariant.proofs.Public.{if-either}
 use Rattle.schedule_laws.proofs.Settled.{settles}
 use Rattle.schedule_laws.proofs.Under.{AllSent}
 

@@ -14,10 +14,9 @@ use Rattle.op_model.specs.Messages.{msg_content, msg_line}
 use Rattle.op_model.specs.Run.Runs.{Past}
 use Rattle.op_model.specs.Run.Schedules.{Lane, first_busy, delivery}
 use Rattle.op_model.specs.Shares.{Charge, Linked, Lanes, Share, State, Trace, copy_of, header_of, links_among, links_in, program, put_share, room_of, share_at}
-use Rattle.one_history.proofs.Shares.{copy-other, copy-same}
-use Rattle.lane_bounds.proofs.Acts.{after_row_of, taken_of}
-use Rattle.lane_bounds.proofs.Homes.{headers-stay, links-after}
-use Rattle.rest_laws.proofs.FirstLane.{first-some}
+use Rattle.one_history.proofs.Public.{copy-other, copy-same}
+use Rattle.lane_bounds.proofs.Public.{after_row_of, headers-stay, links-after, taken_of}
+use Rattle.rest_laws.proofs.Public.{first-some}
 use Rattle.schedule_laws.specs.Courses.{naks_sent}
 use Rattle.schedule_laws.proofs.Settled.{IsSettling, grants}
 use Rattle.schedule_laws.proofs.Settling.{at-share, header-there, idle-after, left_over, less-left, wait-other}

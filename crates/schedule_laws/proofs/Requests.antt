@@ -15,7 +15,7 @@ use Rattle.op_model.specs.Lines.{Absent, For, Header, LineShare, Outcome, Room, 
 use Rattle.op_model.specs.Tables.Home.{forward_get, forward_getx, give_home_copy, give_memory, invalidate_for, lacks_link, no_other, on_get, on_getx, refuse, share_home_copy, share_memory}
 use Rattle.op_model.specs.Tables.Processor.{ask, begin_at_home, begin_op, forward_get_home, forward_getx_home, invalidate_for_home, load_at_home, serves, write_at_home}
 use Rattle.op_model.specs.Tables.Remote.{on_fwd_get, on_fwd_getx}
-use Rattle.op_model.proofs.Plain.{eqb-self}
+use Rattle.op_model.proofs.Public.{eqb-self}
 use Rattle.schedule_laws.proofs.Settled.{AllSettle, grants, still_sent}
 
 -- a row that leaves what is begun as it was

@@ -5,10 +5,10 @@ use Rattle.op_model.specs.declared.events.Class.TheVariants.{Request}
 use Rattle.op_model.specs.declared.state.Wait.TheVariants.{Idle}
 use Rattle.op_model.specs.Lines.{Copy, Header, is_empty, is_exclusive}
 use Rattle.op_model.specs.Nodes.{none, only}
-use Rattle.op_model.proofs.Plain.{eqb-self}
+use Rattle.op_model.proofs.Public.{eqb-self}
 use Rattle.line_invariant.specs.Line.{Line}
 use Rattle.line_invariant.specs.Good.{Answered, Asked, Asking, AskingX, Called, Carrier, Clean, Forwarded, Granted, HandedOn, Hints, HomeOwns, IsGood, IsGoodHeader, Leaving, NotLeaving, Owned, Phase, Resting, SharedOut, WritesBack, answer_part, holds_in, is_write_answer, is_write_back, leaving_part, role_in}
-use Rattle.rest_laws.proofs.Quiet.{app-none, no-answer, quiet-header, silent}
+use Rattle.rest_laws.proofs.Public.{app-none, no-answer, quiet-header, silent}
 
 -- a clean line
 abbrev pub IsCleanLine : Header → Type 0

@@ -13,8 +13,8 @@ use Rattle.op_model.specs.Run.Runs.{Past}
 use Rattle.op_model.specs.Shares.{Charge, Lanes, Share, State, Trace, copy_of, pending_lines, put_share, room_of, want_after}
 use Rattle.one_history.specs.Project.{line_words, of_line, project}
 use Rattle.one_history.specs.Sound.{answered_of}
-use Rattle.lane_bounds.proofs.Acts.{after_row_of}
-use Rattle.rest_laws.proofs.Quiet.{quiet-header}
+use Rattle.lane_bounds.proofs.Public.{after_row_of}
+use Rattle.rest_laws.proofs.Public.{quiet-header}
 use Rattle.schedule_laws.proofs.Known.{IsKnown, IsUsual}
 use Rattle.schedule_laws.proofs.Recalls.{header_at}
 use Rattle.schedule_laws.proofs.RestLines.{IsRestLine, rest-line}

@@ -18,10 +18,9 @@ use Rattle.op_model.specs.Run.Schedules.{make_room, other_in_set, processor_even
 use Rattle.op_model.specs.Shares.{Charge, State, Trace, conflicts, copy_of, links_among, is_linked, links_in, program, put_share, room_of, share_at}
 use Rattle.op_model.specs.Tables.Home.{lacks_link, on_get, refuse}
 use Rattle.op_model.specs.Tables.Processor.{ask, holds_link, serves}
-use Rattle.op_model.proofs.Plain.{three_parts}
-use Rattle.one_history.proofs.Shares.{copy-other, copy-same}
-use Rattle.lane_bounds.proofs.Acts.{after_act, after_row_of, taken_of}
-use Rattle.lane_bounds.proofs.Effects.{asks_victim, is_fit, row_at, taking}
+use Rattle.op_model.proofs.Public.{three_parts}
+use Rattle.one_history.proofs.Public.{copy-other, copy-same}
+use Rattle.lane_bounds.proofs.Public.{after_act, after_row_of, asks_victim, is_fit, row_at, taken_of, taking}
 use Rattle.schedule_laws.proofs.Alone.{IsAlone, absent-alone, absent-other, alone-absent}
 use Rattle.schedule_laws.proofs.Asked.{headers-kept, met, met-get, share-kept}
 use Rattle.schedule_laws.proofs.Begins.{hit-missed}

@@ -9,8 +9,8 @@ use Rattle.op_model.specs.Run.Rest.{IsAtRest}
 use Rattle.op_model.specs.Run.Runs.{Past, past_after}
 use Rattle.op_model.specs.Run.Weight.{IsEmpty}
 use Rattle.op_model.specs.Shares.{Charge, Share, State, Trace, program}
-use Rattle.lane_bounds.proofs.Acts.{after_act, after_row_of, just}
-use Rattle.rest_laws.proofs.AtRest.{all-clear, rests}
+use Rattle.lane_bounds.proofs.Public.{after_act, after_row_of, just}
+use Rattle.rest_laws.proofs.Public.{all-clear, rests}
 use Rattle.schedule_laws.specs.Courses.{IsCourse, nak_count, naks_sent}
 use Rattle.schedule_laws.proofs.Courses.{course-append, naks-append, naks-cons}
 use Rattle.schedule_laws.proofs.Known.{Delivers, IsKnown, IsNoNak, IsSettled, IsUsual, act-silent, known-event}

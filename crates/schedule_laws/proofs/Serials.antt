@@ -13,10 +13,9 @@ use Rattle.op_model.specs.Run.Rest.{IsAtRest}
 use Rattle.op_model.specs.Run.Runs.{Past, run, run_by, start}
 use Rattle.op_model.specs.Run.Schedules.{IsSerial, current, first_busy, serial_next}
 use Rattle.op_model.specs.Shares.{Charge, State, Trace, program}
-use Rattle.op_model.proofs.Plain.{take-next}
+use Rattle.op_model.proofs.Public.{take-next}
 use Rattle.one_history.specs.Sound.{IsSound}
-use Rattle.rest_laws.proofs.AtRest.{resting}
-use Rattle.rest_laws.proofs.Deliver.{run-on}
+use Rattle.rest_laws.proofs.Public.{resting, run-on}
 use Rattle.schedule_laws.specs.Courses.{IsCompleted, IsCourse}
 use Rattle.schedule_laws.specs.Ends.{AreAllDone, IsInOrder, SerialRun}
 use Rattle.schedule_laws.proofs.Completing.{Completes}

@@ -13,7 +13,7 @@ use Rattle.op_model.specs.Run.Rest.{IsAtRest}
 use Rattle.op_model.specs.Run.Runs.{Past, entries_of, past_after, run_by}
 use Rattle.op_model.specs.Shares.{Charge, Trace, program}
 use Rattle.one_history.specs.Sound.{IsSound}
-use Rattle.one_history.proofs.Order.{by-append}
+use Rattle.one_history.proofs.Public.{by-append}
 
 -- the entries that a run adds
 abbrev pub Adds : Past → Past → Type 0

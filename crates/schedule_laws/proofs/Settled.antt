@@ -14,8 +14,8 @@ use Rattle.op_model.specs.Messages.{Content, Get, GetX, FwdGet, FwdGetX, Inv, Wb
 use Rattle.op_model.specs.Lines.{Exclusive, Header, LineShare, Room, Outcome, Own, sending, is_idle, marked_load}
 use Rattle.op_model.specs.Tables.Home.{grant, grantee_of, on_inv_ack, on_shwb, on_fack, on_wb, on_rpl}
 use Rattle.op_model.specs.Tables.Remote.{meets, row_of, on_message, on_inv, on_put, on_putx, on_nak, waits_load, waits_write, is_invalidate}
-use Rattle.op_model.proofs.Plain.{three_parts}
-use Rattle.line_invariant.proofs.Basics.{if-either}
+use Rattle.op_model.proofs.Public.{three_parts}
+use Rattle.line_invariant.proofs.Public.{if-either}
 use Rattle.schedule_laws.specs.Courses.{is_any_nak}
 
 -- a message that neither asks nor forwards, nor tells a home that a forward was refused

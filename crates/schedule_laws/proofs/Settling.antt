@@ -10,10 +10,10 @@ use Rattle.op_model.specs.Messages.{Content, msg_content, msg_line}
 use Rattle.op_model.specs.Lines.{Header, Outcome}
 use Rattle.op_model.specs.Shares.{Lanes, Share, State, header_of, put_share, share_at, want_after, want_on}
 use Rattle.op_model.specs.Events.Step.{put_at}
-use Rattle.one_history.proofs.Shares.{header-other, header-same}
-use Rattle.lane_bounds.proofs.Acts.{after_row_of, sent_of, taken_of}
-use Rattle.rest_laws.proofs.Sends.{sends-cons, sends-none, sends_weight}
-use Rattle.rest_laws.proofs.Weights.{weight-sent, weight-taken, weight_by}
+use Rattle.one_history.proofs.Public.{header-other, header-same}
+use Rattle.lane_bounds.proofs.Public.{after_row_of, sent_of, taken_of}
+use Rattle.rest_laws.proofs.Public.{sends-cons, sends-none, sends_weight, weight-sent, weight-taken}
+use Rattle.rest_laws.proofs.Public.{weight_by}
 use Rattle.schedule_laws.specs.Courses.{is_any_nak}
 use Rattle.schedule_laws.proofs.Settled.{AllSettle, IsSettling, grants, settles, still, still_sent}
 use Rattle.schedule_laws.proofs.Under.{AllSent, AllUnder, under-front, under-sent, under-taken}

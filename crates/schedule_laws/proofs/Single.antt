@@ -10,14 +10,10 @@ use Rattle.op_model.specs.Messages.{Content, class_of, message, msg_class, msg_c
 use Rattle.op_model.specs.Run.Schedules.{first_busy}
 use Rattle.op_model.specs.Run.Weight.{total}
 use Rattle.op_model.specs.Shares.{Lanes, State}
-use Rattle.op_model.proofs.Shares.{same_class-is, same_class-self}
-use Rattle.op_model.proofs.Plain.{total-zero, eqb-swap, eqb-self}
+use Rattle.op_model.proofs.Public.{eqb-self, eqb-swap, same_class-is, same_class-self, total-zero}
 use Rattle.line_invariant.specs.Line.{addressed}
-use Rattle.lane_bounds.proofs.Acts.{sent_of, tag, taken_of}
-use Rattle.rest_laws.proofs.FirstLane.{busy-some, first-some}
-use Rattle.rest_laws.proofs.Sends.{sends_weight}
-use Rattle.rest_laws.proofs.Totals.{total-same}
-use Rattle.rest_laws.proofs.Weights.{weight-sent, weight_by}
+use Rattle.lane_bounds.proofs.Public.{sent_of, tag, taken_of}
+use Rattle.rest_laws.proofs.Public.{busy-some, first-some, sends_weight, total-same, weight-sent, weight_by}
 use Rattle.schedule_laws.proofs.Settled.{still}
 use Rattle.schedule_laws.proofs.Under.{AllUnder}
 
@@ -102,10 +98,10 @@ first-one sizes state node to m only node_in to_in =
 -- empty lanes weigh nothing, and what is sent into them weighs what a row sends
 pub empty-weight : (w : Content → ℕ) (nodes : ℕ) (lane : Lanes) → AreEmpty lane → weight_by w nodes lane ≡ 0
 empty-weight w nodes lane empty =
-    total-same (λ a. total (λ b. cell a b) nodes) (λ a. 0) nodes (λ a. total-same (λ b. cell a b) (λ b. 0) nodes (λ b. λ i. Rattle.lane_bounds.proofs.Sums.weighed w (empty a b Request i) + Rattle.lane_bounds.proofs.Sums.weighed w (empty a b Reply i)) ∙ total-zero nodes) ∙ total-zero nodes
+    total-same (λ a. total (λ b. cell a b) nodes) (λ a. 0) nodes (λ a. total-same (λ b. cell a b) (λ b. 0) nodes (λ b. λ i. Rattle.lane_bounds.proofs.Public.weighed w (empty a b Request i) + Rattle.lane_bounds.proofs.Public.weighed w (empty a b Reply i)) ∙ total-zero nodes) ∙ total-zero nodes
   where
     cell : ℕ → ℕ → ℕ
-    cell a b = Rattle.lane_bounds.proofs.Sums.weighed w (lane a b Request) + Rattle.lane_bounds.proofs.Sums.weighed w (lane a b Reply)
+    cell a b = Rattle.lane_bounds.proofs.Public.weighed w (lane a b Request) + Rattle.lane_bounds.proofs.Public.weighed w (lane a b Reply)
 
 pub sent-weight : (nodes me line : ℕ) (sends : List (ℕ × Content)) (lane : Lanes) → AreEmpty lane → weight_by still nodes (sent_of me line sends lane) ≤ sends_weight still nodes sends
 sent-weight nodes me line sends lane empty =

@@ -7,9 +7,8 @@ use Rattle.op_model.specs.declared.events.Event.{Event}
 use Rattle.op_model.specs.Lines.{Outcome}
 use Rattle.op_model.specs.Run.Runs.{Past}
 use Rattle.op_model.specs.Shares.{Charge, Lanes, State, Trace, header_of, share_at}
-use Rattle.lane_bounds.proofs.Acts.{after_row_of, sent_of}
-use Rattle.rest_laws.proofs.Sends.{sends_weight}
-use Rattle.rest_laws.proofs.Weights.{weight_by}
+use Rattle.lane_bounds.proofs.Public.{after_row_of, sent_of}
+use Rattle.rest_laws.proofs.Public.{sends_weight, weight_by}
 use Rattle.schedule_laws.proofs.Known.{Delivers, IsKnown, IsUsual}
 use Rattle.schedule_laws.proofs.Requests.{IsPassive}
 use Rattle.schedule_laws.proofs.Rounds.{IsRound, round-settled}

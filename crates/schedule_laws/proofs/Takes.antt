@@ -8,9 +8,9 @@ use Rattle.op_model.specs.Messages.{msg_class, msg_content, msg_line}
 use Rattle.op_model.specs.Run.Runs.{Past, past_after}
 use Rattle.op_model.specs.Run.Schedules.{Lane, delivery, first_busy}
 use Rattle.op_model.specs.Shares.{Charge, State, Trace, program}
-use Rattle.lane_bounds.proofs.Acts.{Act, after_act, after_row_of, taken_of}
-use Rattle.lane_bounds.proofs.Effects.{IsActOf, asks_victim, each-taken, is_fit, row_at, taking}
-use Rattle.rest_laws.proofs.Deliver.{delivery-done}
+use Rattle.lane_bounds.proofs.Public.{Act, IsActOf, after_act, after_row_of, asks_victim, each-taken, is_fit}
+use Rattle.lane_bounds.proofs.Public.{row_at, taken_of, taking}
+use Rattle.rest_laws.proofs.Public.{delivery-done}
 use Rattle.schedule_laws.specs.Courses.{naks_sent}
 use Rattle.schedule_laws.proofs.Known.{Delivers, IsKnown, IsNoNak, IsUsual, act-naks, act-silent, known-event, naks_of}
 use Rattle.schedule_laws.proofs.Rounds.{IsRound, round-after, round-naks}

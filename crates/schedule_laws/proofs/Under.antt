@@ -5,8 +5,7 @@ use Rattle.op_model.specs.declared.messages.Msg.{Msg}
 use Rattle.op_model.specs.Messages.{Content, class_of, msg_content, msg_content-message, same_class}
 use Rattle.op_model.specs.Shares.{Lanes}
 use Rattle.line_invariant.specs.Line.{addressed}
-use Rattle.lane_bounds.proofs.Acts.{sent_of, tag, taken_of}
-use Rattle.lane_bounds.proofs.Lanes.{taken-either}
+use Rattle.lane_bounds.proofs.Public.{sent_of, tag, taken-either, taken_of}
 
 module _ (Is : Content → Type 0) where
   -- each message of a list says something that is so

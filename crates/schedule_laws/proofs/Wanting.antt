@@ -9,10 +9,8 @@ use Rattle.op_model.specs.Messages.{Content, Nak}
 use Rattle.op_model.specs.Nodes.{Nodes, count, in_order, listed}
 use Rattle.op_model.specs.Shares.{Charge, Lanes, Share, State, Trace, copy_of, header_of, links_among, is_linked, links_in, put_share, room_of, share_at, want_after, want_on}
 use Rattle.op_model.specs.Tables.Processor.{call_in}
-use Rattle.lane_bounds.proofs.Acts.{after_row_of, row-kept}
-use Rattle.lane_bounds.proofs.Homes.{links-after}
-use Rattle.rest_laws.proofs.Sends.{sends_weight}
-use Rattle.rest_laws.proofs.Weights.{weight-sent}
+use Rattle.lane_bounds.proofs.Public.{after_row_of, links-after, row-kept}
+use Rattle.rest_laws.proofs.Public.{sends_weight, weight-sent}
 use Rattle.schedule_laws.proofs.Gets.{listed-weight}
 use Rattle.schedule_laws.proofs.Recalled.{IsRecall}
 use Rattle.schedule_laws.proofs.Recalls.{IsRecalled, header_at}

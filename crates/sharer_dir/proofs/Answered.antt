@@ -9,7 +9,7 @@ use Rattle.std.proofs.lemmas.List.{get_or_read, set-get_or, length-map}
 use Rattle.op_model.specs.Nodes.{Nodes, none, listed, enlist, count, same_nodes, listed-enlist}
 use Rattle.op_model.specs.Lines.{nobody_listed}
 use Rattle.link_store.specs.Pools.{Chain, Pool, chain_of, links_of, times_in, IsLinkOf}
-use Rattle.link_store.proofs.Times.{contains_times, times_contains}
+use Rattle.link_store.proofs.Public.{contains_times, times_contains}
 use Rattle.dir_header.specs.Sharers.{with_list, list_at, needs_link, free_in, held_by, Linked}
 use Rattle.dir_header.specs.Plain.{PlainView, plain_directory}
 use Rattle.sharer_dir.specs.Linked.{LinkedView, head_at, set_at, nodes_in, Stands, IsLinkedDir, is_head, line_among, linked_directory}

@@ -6,7 +6,7 @@ use Rattle.op_model.specs.Nodes.{Nodes, none, listed, enlist, unlist}
 use Rattle.link_store.specs.Pools.{Chain, Pool, chain_of, with_chain, after_put, after_pop, after_unlink, first_node, link_with, without, has_node, IsPartition}
 use Rattle.dir_header.specs.Sharers.{Directory, with_list}
 use Rattle.dir_header.specs.Plain.{PlainView, plain_directory}
-use Rattle.dir_header.proofs.Directories.{unlist-none}
+use Rattle.dir_header.proofs.Public.{unlist-none}
 use Rattle.sharer_dir.specs.Linked.{LinkedView, head_at, set_at, Stands, IsLinkedDir, is_head}
 use Rattle.sharer_dir.proofs.Standing.{stands_head, stands_link, stands_next, stands_without, none_listed, listed_by_link}
 use Rattle.sharer_dir.proofs.Directories.{line_kept}

@@ -8,7 +8,7 @@ use Rattle.std.proofs.lemmas.List.{length-map}
 use Rattle.op_model.specs.Nodes.{Nodes, none, listed, count}
 use Rattle.link_store.specs.Pools.{Chain, chain_of, nodes_of, IsPartition}
 use Rattle.dir_header.specs.Sharers.{Linked, IsDirectory, list_at, held_by, held_in, free_in}
-use Rattle.dir_header.proofs.Directories.{held-linked}
+use Rattle.dir_header.proofs.Public.{held-linked}
 use Rattle.sharer_dir.specs.Linked.{LinkedView, head_at, set_at, Stands, IsLinkedDir, linked_directory}
 
 -- a list holds as many links as its chain has

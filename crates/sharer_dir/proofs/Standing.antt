@@ -3,7 +3,7 @@ use Rattle.std.specs.Prelude.{◌≡◌, ℕ, ◌+◌, ◌-◌, ◌≤◌, ◌==
 use Rattle.std.proofs.Common.{refl, sym, ap, ◌∙◌, arith}
 use Rattle.std.proofs.lemmas.Bool.Decides.{nat_tests}
 use Rattle.op_model.specs.Nodes.{Nodes, none, listed, enlist, unlist, count, listed-none, listed-enlist, listed-unlist, count-none, count-enlist, count-unlist}
-use Rattle.op_model.proofs.Plain.{eqb-swap}
+use Rattle.op_model.proofs.Public.{eqb-swap}
 use Rattle.link_store.specs.Pools.{Chain, times_in, nodes_of, has_node, without, first_node}
 use Rattle.dir_header.specs.Sharers.{only_this}
 use Rattle.sharer_dir.specs.Linked.{Stands, nodes_in}

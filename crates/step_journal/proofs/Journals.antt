@@ -11,7 +11,7 @@ use Rattle.op_model.specs.declared.events.Numbered.{Numbered}
 use Rattle.op_model.specs.Run.Weight.{total}
 use Rattle.op_model.specs.Parts.Part.{Part}
 use Rattle.op_model.specs.Parts.Journal.{drawn, Agrees, IsJournal}
-use Rattle.op_model.proofs.Plain.{total-alike, total-add, total-zero}
+use Rattle.op_model.proofs.Public.{total-add, total-alike, total-zero}
 use Rattle.step_journal.specs.Logs.{LogList, all_entries, all_drawn, entries_of, AreNumbered, AreLogsOf}
 use Rattle.one_journal.specs.SameLogs.{IsMerged}
 use Rattle.step_journal.proofs.Tickets.{has, has_own, drawn_cons, in_log, one_or_none, some_below}

@@ -11,7 +11,7 @@ use Rattle.step_journal.specs.declared.fault.StepError.{StepError}
 use Rattle.step_journal.specs.Printing.{step_words, steps_text}
 use Rattle.step_journal.specs.Reading.{steps_of}
 use Rattle.step_journal.specs.Steps.{IsStep}
-use Rattle.step_journal.proofs.Again.{text_again}
+use Rattle.step_journal.proofs.Public.{text_again}
 
 abbrev first_or : Event → Result (List Event) StepError → Event
 first_or other (Ok (event ∷ events)) = event

@@ -22,11 +22,10 @@ use Rattle.op_model.specs.Nodes.{count}
 use Rattle.op_model.specs.Run.Runs.{Past, past_after, run, run_by, start}
 use Rattle.op_model.specs.Shares.{Charge, State, Trace, copy_of, header_of, program, room_of, line_share}
 use Rattle.op_model.specs.Tables.Processor.{evict, reclaim}
-use Rattle.op_model.proofs.Runs.{run-push}
-use Rattle.message_range.proofs.Acts.{evicts-copy, reclaims-holder}
+use Rattle.op_model.proofs.Public.{run-push}
+use Rattle.message_range.proofs.Public.{evicts-copy, reclaims-holder}
 use Rattle.node_range.specs.Range.{IsOfMachine, IsRanged}
-use Rattle.node_range.proofs.Events.{ranged-run}
-use Rattle.node_range.proofs.Programs.{in-program}
+use Rattle.node_range.proofs.Public.{in-program, ranged-run}
 use Rattle.step_journal.specs.Steps.{IsStep, IsVictim, AreSteps}
 
 -- a line whose home is a node of the machine is a line of it

@@ -16,7 +16,7 @@ use Rattle.op_model.specs.Parts.Composition.{compose}
 use Rattle.dir_header.specs.Sharers.{list_at}
 use Rattle.sharer_dir.specs.Linked.{LinkedView, linked_directory}
 use Rattle.one_journal.specs.SameLogs.{IsMerged}
-use Rattle.one_journal.proofs.One.{only_is}
+use Rattle.one_journal.proofs.Public.{only_is}
 use Rattle.step_journal.specs.Logs.{LogList, entries_of}
 use Rattle.lane_table.specs.Setups.{run_in}
 use Rattle.lane_table.specs.Views.{TableView, SeatView, seat_part}

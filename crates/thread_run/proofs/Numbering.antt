@@ -10,7 +10,7 @@ use Rattle.op_model.specs.Parts.Part.{Part}
 use Rattle.op_model.specs.Parts.Journal.{drawn, Agrees, IsJournal}
 use Rattle.one_journal.specs.SameLogs.{IsMerged}
 use Rattle.step_journal.specs.Logs.{LogList, entries_of, AreNumbered, AreLogsOf}
-use Rattle.step_journal.proofs.Journals.{parts_numbered}
+use Rattle.step_journal.proofs.Public.{parts_numbered}
 use Rattle.lane_table.specs.Views.{no_part}
 
 abbrev no_log : LogList

@@ -2,7 +2,7 @@
 use Rattle.std.proofs.Common.{◌≡◌, ℕ, suc, ◌+◌, ◌<◌, List, [], ◌∷◌, ◌++◌, length, refl, sym, ap, subst, ◌∙◌, arith, length-append, append_assoc, Some}
 use Rattle.std.specs.Prelude.{slice_get}
 use Rattle.line_map.specs.Sizes.{Sizes, AreSizes}
-use Rattle.line_map.proofs.Sizable.{few-nodes}
+use Rattle.line_map.proofs.Public.{few-nodes}
 use Rattle.op_model.specs.declared.operations.Op.{Op}
 use Rattle.op_model.specs.Programs.{ArePrograms, IsProgramOf}
 use Rattle.op_model.specs.Parts.Part.{Part, part_at_start}

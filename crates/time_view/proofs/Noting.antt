@@ -11,8 +11,7 @@ use Rattle.op_model.specs.Run.Runs.{Past, past_after, start, run_by}
 use Rattle.op_model.specs.Run.Machines.{MachineRun, IsRunning, IsApplied}
 use Rattle.dir_report.specs.declared.mode.Mode.TheVariants.{Delayed}
 use Rattle.dir_report.specs.Reports.{header_at, header_words, nodes_word}
-use Rattle.dir_report.proofs.Ranges.{flat_map-range_more}
-use Rattle.dir_report.proofs.Still.{header_first}
+use Rattle.dir_report.proofs.Public.{flat_map-range_more, header_first}
 use Rattle.time_view.specs.Stories.{StoryView, changed, first_story, noted, printed_in, printed_after, change_at, changes_of, story_of}
 
 abbrev pub story : ℕ → ℕ → List ℕ → List ℕ → StoryView

@@ -4,7 +4,7 @@ use Rattle.std.specs.List.{flat_map, range_with_len}
 use Rattle.std.proofs.lemmas.List.{append-nil, length-append}
 use Rattle.std.proofs.lemmas.Grind.{flat_map-append}
 use Rattle.text_lines.specs.Printing.{line_text}
-use Rattle.dir_report.proofs.Ranges.{flat_map-range_more, flat_map-take_more}
+use Rattle.dir_report.proofs.Public.{flat_map-range_more, flat_map-take_more}
 use Rattle.op_model.specs.Run.Schedules.{Lane}
 use Rattle.time_view.specs.Puts.{ArePut}
 

@@ -1,7 +1,7 @@
 -- The listed nodes are nodes of the machine, and the home is one that isn't among them.
 use Rattle.std.proofs.Common.{arith}
 use Rattle.op_model.specs.Shares.{header_of, line_share}
-use Rattle.message_range.proofs.Sets.{below-others}
+use Rattle.message_range.proofs.Public.{below-others}
 use Rattle.eager_part.proofs.Lines.{home-unlisted}
 use Rattle.eager_part.proofs.every_own_list.Goals as goal
 

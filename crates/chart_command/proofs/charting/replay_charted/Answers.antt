@@ -3,7 +3,7 @@ use Rattle.std.proofs.Common.{ap, ◌+◌, subst, sym, ◌∙◌, ℕ, get_or, a
 use Rattle.op_model.specs.declared.events.Event.{Event}
 use Rattle.op_model.specs.declared.events.Event.TheVariants.{Hit}
 use Rattle.commands.specs.Steps.{IsStopped, stopped_at}
-use Rattle.commands.proofs.Replayed.{one-more, refused-here}
+use Rattle.commands.proofs.Public.{one-more, refused-here}
 use Rattle.chart_command.proofs.Drawn.{step-of, still-of, still-below, noted-on}
 use Rattle.chart_command.proofs.charting.replay_charted.Goals as goal
 

@@ -1,4 +1,4 @@
-use Rattle.dir_report.proofs.Ranges.{printed_more}
+use Rattle.dir_report.proofs.Public.{printed_more}
 use Rattle.chart_svg.specs.Pictures.{node_text}
 use Rattle.chart_svg.proofs.document.put_nodes.Goals as goal
 

@@ -1,7 +1,7 @@
 -- The machine starts as the trace's, follows the journal, completes what is left, and is printed.
 use Rattle.std.proofs.Common.{◌≡◌, ◌++◌, sym, subst}
 use Rattle.std.proofs.lemmas.Result.{IfOk-weaker}
-use Rattle.line_map.proofs.Sizable.{some-words}
+use Rattle.line_map.proofs.Public.{some-words}
 use Rattle.op_model.specs.Run.Machines.{MachineRun}
 use Rattle.op_model.specs.Shares.{Linked}
 use Rattle.dir_report.specs.Machines.{report_of}

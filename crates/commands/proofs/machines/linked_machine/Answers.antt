@@ -1,7 +1,7 @@
 -- The same empty directory stands at each node.
 use Rattle.std.proofs.Common.{◌≡◌, map, refl, subst, IfOk}
 use Rattle.line_map.specs.Sizes.{Sizes, AreSizes}
-use Rattle.line_map.proofs.Sizable.{few-nodes}
+use Rattle.line_map.proofs.Public.{few-nodes}
 use Rattle.op_model.specs.Shares.{Charge}
 use Rattle.dir_header.specs.HomeSides.{IsFresh}
 use Rattle.sharer_dir.specs.Linked.{linked_directory, first_linked}

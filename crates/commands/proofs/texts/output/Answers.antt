@@ -1,5 +1,5 @@
 -- The run is a run, so the law of every run holds of it.
-use Rattle.line_map.proofs.Sizable.{some-words}
+use Rattle.line_map.proofs.Public.{some-words}
 use Rattle.commands.proofs.Printed.{text-is}
 use Rattle.commands.proofs.texts.output.Goals as goal
 

@@ -1,5 +1,5 @@
 -- The machine has the programs of the trace.
-use Rattle.commands.proofs.Programs.{own-programs}
+use Rattle.commands.proofs.Public.{own-programs}
 use Rattle.eager_command.proofs.machines.machine_at_start.Goals as goal
 
 pub start-requires : goal.start-requires

@@ -1,5 +1,5 @@
 -- The run is a run, so what the eager core promises holds of it.
-use Rattle.commands.proofs.Played.{of-machine}
+use Rattle.commands.proofs.Public.{of-machine}
 use Rattle.eager_command.proofs.Traces.{in-order}
 use Rattle.eager_command.proofs.Played.{text-is}
 use Rattle.eager_command.proofs.texts.output.Goals as goal

@@ -5,8 +5,8 @@ use Rattle.eager_model.specs.Rows.{drained_list}
 use Rattle.op_model.specs.Lines.{is_pending}
 use Rattle.op_model.specs.Tables.Remote.{is_invalidate}
 use Rattle.dir_header.specs.HomeSides.{header_at}
-use Rattle.node_share.proofs.Homes.{puts-read}
-use Rattle.home_getx.proofs.Granted.{pends, last-one}
+use Rattle.node_share.proofs.Public.{puts-read}
+use Rattle.home_getx.proofs.Public.{last-one, pends}
 use Rattle.eager_home.proofs.Acked.{acked, more, rested, nobody-owns, owned}
 use Rattle.eager_home.proofs.acks.on_inv_ack.Goals as goal
 

@@ -6,7 +6,7 @@ use Rattle.op_model.specs.Events.Node as delayed
 use Rattle.op_model.specs.Programs.{IsProgramOf}
 use Rattle.eager_model.specs.Node.{local}
 use Rattle.magic_node.specs.Nodes.{node_share, input_of}
-use Rattle.magic_node.proofs.Told.{leaves-may}
+use Rattle.magic_node.proofs.Public.{leaves-may}
 use Rattle.eager_home.proofs.Alone.{as-hit, as-evicted, no-links}
 use Rattle.eager_home.proofs.acting.can_act.Goals as goal
 

@@ -10,7 +10,7 @@ use Rattle.eager_model.specs.Node.{local}
 use Rattle.msg_words.specs.SendList.{SendList}
 use Rattle.node_share.specs.Parts.{AreHeaders}
 use Rattle.node_share.specs.Effects.{Acts}
-use Rattle.node_share.proofs.Homes.{home-headers}
+use Rattle.node_share.proofs.Public.{home-headers}
 use Rattle.magic_node.specs.Nodes.{node_share}
 use Rattle.eager_home.proofs.Alone.{as-hit}
 use Rattle.eager_home.proofs.acting.hit_here.Goals as goal

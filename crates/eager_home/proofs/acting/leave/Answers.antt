@@ -6,7 +6,7 @@ use Rattle.eager_model.specs.Node.{local}
 use Rattle.cpu_cache.specs.Effects.{nothing}
 use Rattle.node_share.specs.Effects.{Acts}
 use Rattle.magic_node.specs.Nodes.{node_share}
-use Rattle.magic_node.proofs.Told.{leaves, stays}
+use Rattle.magic_node.proofs.Public.{leaves, stays}
 use Rattle.eager_home.proofs.Alone.{as-evicted}
 use Rattle.eager_home.proofs.acting.leave.Goals as goal
 

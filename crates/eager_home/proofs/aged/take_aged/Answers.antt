@@ -8,7 +8,7 @@ use Rattle.op_model.specs.Events.Node.{TakeFrom}
 use Rattle.node_share.specs.Effects.{Acts}
 use Rattle.eager_model.specs.Ages.{LineAges, age_given, ages_taken}
 use Rattle.eager_model.specs.Node.{line_ages, local, meets_row}
-use Rattle.eager_part.proofs.Needs.{get-met}
+use Rattle.eager_part.proofs.Public.{get-met}
 use Rattle.magic_node.specs.Nodes.{node_share}
 use Rattle.eager_home.specs.Ages.{ages_of, as_ages, with_line}
 use Rattle.eager_home.proofs.Takes.{ages-taken, memory-away, takes}

@@ -3,7 +3,7 @@ use Rattle.std.proofs.Common.{◌≡◌, false, ap}
 use Rattle.std.specs.Prelude.{not}
 use Rattle.std.proofs.lemmas.Bool.{both_ways}
 use Rattle.dir_header.specs.HomeSides.{header_at, room_in}
-use Rattle.node_share.proofs.Homes.{on-ok}
+use Rattle.node_share.proofs.Public.{on-ok}
 use Rattle.eager_home.proofs.Given.{asked, given}
 use Rattle.eager_home.proofs.grants.give_and_drain.Goals as goal
 

@@ -4,7 +4,7 @@ use Rattle.op_model.specs.Tables.Home as delayed
 use Rattle.eager_model.specs.Rows.{on_getx as getx_row, give_and_drain, asks_shared}
 use Rattle.dir_header.specs.HomeSides.{room_in}
 use Rattle.node_share.specs.Parts.{share_of}
-use Rattle.node_share.proofs.Rows.{picks}
+use Rattle.node_share.proofs.Public.{picks}
 use Rattle.eager_home.proofs.Given.{eager-getx, delayed-getx}
 use Rattle.eager_home.proofs.grants.on_getx.Goals as goal
 

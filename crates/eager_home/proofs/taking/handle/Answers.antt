@@ -15,10 +15,10 @@ use Rattle.cpu_cache.specs.Effects.{effect_of}
 use Rattle.dir_header.specs.HomeSides.{room_in}
 use Rattle.node_range.specs.Range.{IsWaitIn}
 use Rattle.node_share.specs.Parts.{row_at, sent, DoesRow}
-use Rattle.node_share.proofs.Wants.{sent-none, effect-none}
+use Rattle.node_share.proofs.Public.{effect-none, sent-none}
 use Rattle.magic_node.specs.Nodes.{node_share}
-use Rattle.magic_node.proofs.Handled.{rpl-quiet, rpl-sends}
-use Rattle.eager_part.proofs.Needs.{idle-line, get-met, getx-met, rpl-met, wb-met, inv_ack-met}
+use Rattle.magic_node.proofs.Public.{rpl-quiet, rpl-sends}
+use Rattle.eager_part.proofs.Public.{get-met, getx-met, idle-line, inv_ack-met, rpl-met, wb-met}
 use Rattle.eager_home.specs.Nodes.{row_met, told_of, DoesMessage}
 use Rattle.eager_home.proofs.Handled.{getx-quiet, inv_ack-quiet, inv_ack-sends, none-for-list}
 use Rattle.eager_home.proofs.taking.handle.Goals as goal

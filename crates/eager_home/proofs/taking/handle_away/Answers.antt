@@ -13,11 +13,11 @@ use Rattle.eager_model.specs.Rows.{row_of}
 use Rattle.cpu_cache.specs.Effects.{effect_of}
 use Rattle.dir_header.specs.HomeSides.{room_in}
 use Rattle.node_share.specs.Parts.{row_at, sent, AreHeaders, DoesRow}
-use Rattle.node_share.proofs.Homes.{home-headers}
-use Rattle.node_share.proofs.Wants.{sent-none, effect-none}
+use Rattle.node_share.proofs.Public.{effect-none, home-headers, sent-none}
 use Rattle.magic_node.specs.Nodes.{node_share}
-use Rattle.magic_node.proofs.Handled.{nak-does, none-away, put-sends, putx-sends, some-wanted}
-use Rattle.eager_part.proofs.Needs.{forward-facts, fwd_get-met, fwd_getx-met, inv-met, put-met, putx-met, nak-met}
+use Rattle.magic_node.proofs.Public.{nak-does, none-away, put-sends, putx-sends, some-wanted}
+use Rattle.eager_part.proofs.Public.{forward-facts, fwd_get-met, fwd_getx-met, inv-met, nak-met, put-met}
+use Rattle.eager_part.proofs.Public.{putx-met}
 use Rattle.eager_home.specs.Nodes.{row_met, told_of, DoesMessage}
 use Rattle.eager_home.proofs.taking.handle_away.Goals as goal
 

@@ -9,9 +9,9 @@ use Rattle.eager_model.specs.Node.{meets_row}
 use Rattle.eager_model.specs.Rows.{row_of}
 use Rattle.dir_header.specs.HomeSides.{room_in}
 use Rattle.node_share.specs.Parts.{row_at}
-use Rattle.node_share.proofs.Wants.{sent-none, effect-none}
+use Rattle.node_share.proofs.Public.{effect-none, sent-none}
 use Rattle.magic_node.specs.Nodes.{node_share}
-use Rattle.eager_part.proofs.Needs.{forward-facts, shwb-met, fack-met, nakc-met}
+use Rattle.eager_part.proofs.Public.{fack-met, forward-facts, nakc-met, shwb-met}
 use Rattle.eager_home.specs.Nodes.{row_met, told_of, DoesMessage}
 use Rattle.eager_home.proofs.Handled.{none-reports}
 use Rattle.eager_home.proofs.taking.handle_report.Goals as goal

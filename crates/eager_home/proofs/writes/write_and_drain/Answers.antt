@@ -10,7 +10,7 @@ use Rattle.eager_model.specs.Rows.{Drain}
 use Rattle.cpu_cache.specs.Caches.{is_set_taken, with_copy}
 use Rattle.dir_header.specs.HomeSides.{header_at, made_pending, room_in, with_header}
 use Rattle.node_share.specs.Parts.{copy_done, sent, share_of}
-use Rattle.node_share.proofs.Homes.{on-ok}
+use Rattle.node_share.proofs.Public.{on-ok}
 use Rattle.eager_home.proofs.Written.{drains}
 use Rattle.eager_home.proofs.Wrote.{wrote}
 use Rattle.eager_home.proofs.writes.write_and_drain.Goals as goal

@@ -7,7 +7,7 @@ use Rattle.eager_model.specs.Node.{local}
 use Rattle.eager_home.specs.Aged.{AgedActs, AreWithin}
 use Rattle.eager_home.specs.Views.{RiseWithin, ages_in}
 use Rattle.eager_machine.specs.Acts.{AreSent, IsDoneAt, IsRefusedAt}
-use Rattle.machine.proofs.Doing.{fits-event, sends-room}
+use Rattle.machine.proofs.Public.{fits-event, sends-room}
 use Rattle.eager_machine.proofs.Answered.{if-both, sent-now, done-at}
 use Rattle.eager_machine.proofs.NodeLists.{node-there}
 use Rattle.eager_machine.proofs.acts.do_alone.Goals as goal

@@ -12,7 +12,7 @@ use Rattle.eager_home.specs.Aged.{AgedActs, AreWithin}
 use Rattle.eager_home.specs.Views.{RiseWithin, ages_in}
 use Rattle.machine.specs.Acts.{FillsLine}
 use Rattle.eager_machine.specs.Acts.{AreSent, IsDoneAt, IsRefusedAt}
-use Rattle.machine.proofs.Doing.{sends-room}
+use Rattle.machine.proofs.Public.{sends-room}
 use Rattle.eager_machine.proofs.Answered.{if-both, sent-now, done-at, rise-more, fills-line}
 use Rattle.eager_machine.proofs.NodeLists.{node-there, meets-at}
 use Rattle.eager_machine.proofs.acts.do_take.Goals as goal

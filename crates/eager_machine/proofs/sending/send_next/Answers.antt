@@ -1,7 +1,7 @@
 -- The message is the first of those that are left.
 use Rattle.std.proofs.Common.{ap}
 use Rattle.message_range.specs.Fitting.{IsSentOf}
-use Rattle.machine.proofs.Sendings.{All-at}
+use Rattle.machine.proofs.Public.{All-at}
 use Rattle.eager_machine.specs.Lanes.{lane_in, sent_from}
 use Rattle.eager_machine.specs.Outboxes.{left_in}
 use Rattle.eager_machine.proofs.Ways.{moved-one}

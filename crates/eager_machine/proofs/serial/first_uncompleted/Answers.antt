@@ -1,5 +1,5 @@
 -- The operation at the place is the first that isn't completed, or it is completed too.
-use Rattle.schedule.proofs.Current.{read-current, read-more, read-end}
+use Rattle.schedule.proofs.Public.{read-current, read-end, read-more}
 use Rattle.eager_machine.proofs.serial.first_uncompleted.Goals as goal
 
 pub returns-then-done_count-op-clause-current : goal.returns-then-done_count-op-clause-current

@@ -5,7 +5,7 @@ use Rattle.op_model.specs.Run.Schedules.{Lane, lane_or_next, first_busy, process
 use Rattle.op_model.specs.Shares.{Unlinked}
 use Rattle.op_model.specs.Programs.{programs_of}
 use Rattle.machine_face.specs.Reads.{IsLane}
-use Rattle.eager_rest.proofs.Deliver.{delivery-takes}
+use Rattle.eager_rest.proofs.Public.{delivery-takes}
 use Rattle.eager_machine.proofs.serial.next_event.Goals as goal
 
 pub returns-in-Some-clause-value : goal.returns-in-Some-clause-value

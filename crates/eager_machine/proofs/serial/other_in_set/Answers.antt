@@ -1,7 +1,7 @@
 -- The line that stands in the set is the other one, where it isn't the line itself.
 use Rattle.std.proofs.Common.{◌≡◌, true, sym, subst}
 use Rattle.cpu_cache.specs.Caches.{CacheView, IsResident, is_set_taken}
-use Rattle.machine.proofs.Others.{other-none, other-some, untaken}
+use Rattle.machine.proofs.Public.{other-none, other-some, untaken}
 use Rattle.eager_machine.proofs.serial.other_in_set.Goals as goal
 
 pub returns-in-Some-clause-value : goal.returns-in-Some-clause-value

@@ -5,7 +5,7 @@ use Rattle.op_model.specs.declared.events.Event.TheVariants.{Evict, Issue}
 use Rattle.op_model.specs.Lines.{state_of}
 use Rattle.op_model.specs.Shares.{copy_in}
 use Rattle.cpu_cache.specs.Caches.{CacheView}
-use Rattle.machine.proofs.Others.{copy-is}
+use Rattle.machine.proofs.Public.{copy-is}
 use Rattle.eager_machine.proofs.ProcessorEvents.{evicts, hits, makes-room}
 use Rattle.eager_machine.proofs.serial.processor_event.Goals as goal
 

@@ -1,5 +1,5 @@
 use Rattle.std.proofs.Common.{append_assoc}
-use Rattle.dir_report.proofs.Appended.{on_ok_then}
+use Rattle.dir_report.proofs.Public.{on_ok_then}
 use Rattle.eager_report.proofs.histories.put_aged.Goals as goal
 
 pub returns : goal.returns

@@ -1,6 +1,6 @@
 use Rattle.std.proofs.Common.{◌≡◌, ◌+◌, ◌-◌, length, take, drop, get_or, rules, arith, add-one}
 use Rattle.std.proofs.lemmas.List.{take_rest}
-use Rattle.text_lines.proofs.Cutting.{unmatched}
+use Rattle.text_lines.proofs.Public.{unmatched}
 use Rattle.hist_check.proofs.Cuts.{line_found, line_last}
 use Rattle.hist_check.proofs.cut.first_line.Goals as goal
 

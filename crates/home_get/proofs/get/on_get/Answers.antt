@@ -7,7 +7,7 @@ use Rattle.op_model.specs.Tables.Home.{on_get as get_row, lacks_link, refuse, sh
 use Rattle.dir_header.specs.HomeSides.{header_at, room_in}
 use Rattle.home_get.specs.declared.get.GetOut.TheVariants.{Put, Forwarded, Nak}
 use Rattle.node_share.specs.Parts.{share_of}
-use Rattle.node_share.proofs.Rows.{picks, tells-none, tells-for}
+use Rattle.node_share.proofs.Public.{picks, tells-for, tells-none}
 use Rattle.home_get.proofs.Picks.{for_link, for_link-quiet, get-pending, get-lacks, get-copy, get-owner, get-memory, wants-pending, wants-linked, answer-is}
 use Rattle.home_get.proofs.get.on_get.Goals as goal
 

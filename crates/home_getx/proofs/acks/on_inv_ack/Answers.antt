@@ -6,7 +6,7 @@ use Rattle.op_model.specs.Lines.{is_pending}
 use Rattle.op_model.specs.Tables.Home.{grantee_of}
 use Rattle.op_model.specs.Tables.Remote.{is_invalidate}
 use Rattle.dir_header.specs.HomeSides.{header_at}
-use Rattle.node_share.proofs.Homes.{puts-read}
+use Rattle.node_share.proofs.Public.{puts-read}
 use Rattle.home_getx.proofs.Granted.{pends, last-one, acked, more-does, more-tells, granted, handed, taken, nobody-does, nobody-tells, node-does, node-tells, me-does, me-tells, some-write, write-on, write-kind, write-next, write-word, write-alone, write-unserved}
 use Rattle.home_getx.proofs.acks.on_inv_ack.Goals as goal
 

@@ -2,7 +2,7 @@
 use Rattle.std.proofs.Common.{sym, ap, ◌∙◌}
 use Rattle.op_model.specs.Tables.Home.{requester_of}
 use Rattle.op_model.specs.Tables.Remote.{is_invalidate}
-use Rattle.node_share.proofs.Homes.{puts-read}
+use Rattle.node_share.proofs.Public.{puts-read}
 use Rattle.home_getx.proofs.Backs.{ended, fack-dirty, fack-clean}
 use Rattle.home_getx.proofs.back.on_fack.Goals as goal
 

@@ -2,9 +2,9 @@
 use Rattle.std.proofs.Common.{◌≡◌, true, sym, ap, ◌∙◌}
 use Rattle.op_model.specs.Lines.{is_idle}
 use Rattle.op_model.specs.Tables.Remote.{is_invalidate}
-use Rattle.op_model.proofs.Shares.{idle-wait}
+use Rattle.op_model.proofs.Public.{idle-wait}
 use Rattle.dir_header.specs.HomeSides.{header_at}
-use Rattle.node_share.proofs.Homes.{puts-read}
+use Rattle.node_share.proofs.Public.{puts-read}
 use Rattle.home_getx.proofs.Backs.{clean-words, wb-idle, wb-pending}
 use Rattle.home_getx.proofs.back.on_wb.Goals as goal
 

@@ -1,9 +1,9 @@
 -- The home's copy is gone, and the sender alone is listed.
 use Rattle.std.proofs.Common.{ap, ◌∙◌}
 use Rattle.op_model.specs.Tables.Remote.{is_invalidate}
-use Rattle.op_model.proofs.Shares.{idle-calm}
+use Rattle.op_model.proofs.Public.{idle-calm}
 use Rattle.dir_header.specs.HomeSides.{header_at}
-use Rattle.node_share.proofs.Homes.{puts-read}
+use Rattle.node_share.proofs.Public.{puts-read}
 use Rattle.home_getx.proofs.Gives.{away, gives-copy}
 use Rattle.home_getx.proofs.getx.give_home_copy.Goals as goal
 

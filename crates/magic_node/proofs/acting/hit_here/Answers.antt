@@ -7,7 +7,7 @@ use Rattle.op_model.specs.Programs.{IsProgramOf}
 use Rattle.msg_words.specs.SendList.{SendList}
 use Rattle.node_share.specs.Parts.{AreHeaders}
 use Rattle.node_share.specs.Effects.{Acts}
-use Rattle.node_share.proofs.Homes.{home-headers}
+use Rattle.node_share.proofs.Public.{home-headers}
 use Rattle.magic_node.specs.Nodes.{node_share}
 use Rattle.magic_node.proofs.acting.hit_here.Goals as goal
 

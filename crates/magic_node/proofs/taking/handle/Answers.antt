@@ -14,8 +14,7 @@ use Rattle.cpu_cache.specs.Effects.{effect_of}
 use Rattle.dir_header.specs.HomeSides.{room_in}
 use Rattle.node_range.specs.Range.{IsWaitIn}
 use Rattle.node_share.specs.Parts.{row_at, sent, DoesRow, AreHeaders}
-use Rattle.node_share.proofs.Homes.{home-headers}
-use Rattle.node_share.proofs.Wants.{sent-none, effect-none}
+use Rattle.node_share.proofs.Public.{effect-none, home-headers, sent-none}
 use Rattle.magic_node.specs.Nodes.{node_share}
 use Rattle.magic_node.proofs.Needs.{forward-facts, get-met, getx-met, rpl-met, wb-met, inv_ack-met, shwb-met, fack-met, nakc-met, fwd_get-met, fwd_getx-met, inv-met, put-met, putx-met, nak-met}
 use Rattle.magic_node.proofs.Handled.{none-for-home, getx-quiet, rpl-quiet, rpl-sends, put-sends, putx-sends, nak-does, some-wanted}

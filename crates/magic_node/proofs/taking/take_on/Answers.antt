@@ -7,11 +7,11 @@ use Rattle.op_model.specs.MessageWords.{words_behind}
 use Rattle.op_model.specs.Shares.{Share, header_of, line_share, room_of, header_in}
 use Rattle.op_model.specs.Events.Node.{TakeFrom, asks_victim, fits_victim, local, permit}
 use Rattle.op_model.specs.Tables.Processor.{call_in, reclaim}
-use Rattle.op_model.proofs.Shares.{refused-for}
+use Rattle.op_model.proofs.Public.{refused-for}
 use Rattle.dir_header.specs.HomeSides.{header_at, room_in}
 use Rattle.node_share.specs.Parts.{AreHeaders, DoesRow, HasRoom}
 use Rattle.node_share.specs.Effects.{Acts}
-use Rattle.node_share.proofs.Homes.{home-headers, on-ok}
+use Rattle.node_share.proofs.Public.{home-headers, on-ok}
 use Rattle.magic_node.specs.Nodes.{node_share}
 use Rattle.magic_node.proofs.Taken.{takes, allowed-none, allowed-victim, fits-here, takes-victim, room-left, headers-stay, calls-victim, is-done}
 use Rattle.magic_node.proofs.taking.take_on.Goals as goal

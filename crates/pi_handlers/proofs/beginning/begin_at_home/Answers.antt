@@ -9,13 +9,12 @@ use Rattle.op_model.specs.Operations.{is_load}
 use Rattle.op_model.specs.Lines.{is_idle, nobody_listed}
 use Rattle.op_model.specs.Tables.Processor.{begin_at_home}
 use Rattle.op_model.specs.Shares.{line_share, copy_of, header_of, header_in}
-use Rattle.op_model.proofs.Shares.{refused-for}
+use Rattle.op_model.proofs.Public.{refused-for}
 use Rattle.cpu_cache.specs.Caches.{with_copy}
 use Rattle.dir_header.specs.HomeSides.{header_at, room_in}
 use Rattle.node_share.specs.Parts.{share_of, copy_done}
 use Rattle.node_share.specs.Effects.{Begins}
-use Rattle.node_share.proofs.Homes.{on-ok}
-use Rattle.node_share.proofs.Taken.{load_test}
+use Rattle.node_share.proofs.Public.{load_test, on-ok}
 use Rattle.pi_handlers.proofs.Rows.{allowed-idle, allowed-room, dirty-waits, write-waits, no-acks, owner-listed}
 use Rattle.pi_handlers.proofs.Begun.{Does, begun-is, forwards-get, forwards-getx, calls-in, loads, writes}
 use Rattle.pi_handlers.proofs.beginning.begin_at_home.Goals as goal

@@ -2,7 +2,7 @@
 use Rattle.std.proofs.Common.{◌≡◌, not, true, false, sym, ap, ◌∙◌}
 use Rattle.op_model.specs.Operations.{is_load}
 use Rattle.dir_header.specs.HomeSides.{header_at}
-use Rattle.node_share.proofs.Taken.{load_test}
+use Rattle.node_share.proofs.Public.{load_test}
 use Rattle.pi_handlers.proofs.Rows.{dirty-waits, load-rests, write-waits}
 use Rattle.pi_handlers.proofs.beginning.has_to_wait.Goals as goal
 

@@ -9,7 +9,7 @@ use Rattle.op_model.specs.Programs.{IsProgramOf}
 use Rattle.cpu_cache.specs.Caches.{is_set_taken}
 use Rattle.dir_header.specs.HomeSides.{room_in}
 use Rattle.node_share.specs.Parts.{share_of}
-use Rattle.node_share.proofs.Rows.{is-away}
+use Rattle.node_share.proofs.Public.{is-away}
 use Rattle.pi_handlers.proofs.Acting.{issue-may, issue-away}
 use Rattle.pi_handlers.proofs.issuing.can_issue.Goals as goal
 

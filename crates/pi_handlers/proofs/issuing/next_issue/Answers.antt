@@ -10,7 +10,7 @@ use Rattle.cpu_cache.specs.Caches.{is_set_taken}
 use Rattle.dir_header.specs.HomeSides.{room_in}
 use Rattle.node_share.specs.Parts.{share_of, DoesRow}
 use Rattle.node_share.specs.Effects.{Acts, Begins}
-use Rattle.node_share.proofs.Rows.{is-away}
+use Rattle.node_share.proofs.Public.{is-away}
 use Rattle.pi_handlers.proofs.Acting.{act, free-is, issue-none, issue-waits, issue-hits, issue-conflicts, issue-refused, issue-begins, issue-asks}
 use Rattle.pi_handlers.proofs.issuing.next_issue.Goals as goal
 

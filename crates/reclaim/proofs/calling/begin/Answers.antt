@@ -3,9 +3,9 @@ use Rattle.std.proofs.Common.{not, None, refl, ap, ◌∙◌}
 use Rattle.std.proofs.lemmas.Result.{err_from_is_err_and}
 use Rattle.op_model.specs.Lines.{LineShare, Absent}
 use Rattle.op_model.specs.Tables.Processor.{reclaim}
-use Rattle.op_model.proofs.Shares.{refused-for}
+use Rattle.op_model.proofs.Public.{refused-for}
 use Rattle.dir_header.specs.HomeSides.{header_at, room_in}
-use Rattle.node_share.proofs.Homes.{puts-read}
+use Rattle.node_share.proofs.Public.{puts-read}
 use Rattle.reclaim.proofs.Called.{allows, begun, called, call-does}
 use Rattle.reclaim.proofs.calling.begin.Goals as goal
 

@@ -8,11 +8,10 @@ use Rattle.cpu_cache.specs.Processors.{next_of}
 use Rattle.op_model.specs.Operations.{is_load}
 use Rattle.op_model.specs.Tables.Processor.{serves}
 use Rattle.op_model.specs.Tables.Remote.{is_invalidate}
-use Rattle.op_model.proofs.Shares.{write-outstanding}
+use Rattle.op_model.proofs.Public.{write-outstanding}
 use Rattle.cpu_cache.specs.Caches.{with_copy, is_set_taken}
 use Rattle.node_share.specs.Parts.{copy_done}
-use Rattle.node_share.proofs.Homes.{puts-read}
-use Rattle.node_share.proofs.Wants.{on-line, want-is, write-is, set-untaken, set-unserved}
+use Rattle.node_share.proofs.Public.{on-line, puts-read, set-unserved, set-untaken, want-is, write-is}
 use Rattle.remote_handlers.proofs.Ended.{owned, owned-idle, putx-home, putx-cached, putx-tells}
 use Rattle.remote_handlers.proofs.answers.on_putx.Goals as goal
 

@@ -2,9 +2,9 @@
 use Rattle.std.proofs.Common.{◌≡◌, ◌-◌, true, false, cond, ◌&&◌, sym, ap, ◌∙◌}
 use Rattle.op_model.specs.Nodes.{listed}
 use Rattle.op_model.specs.Lines.{is_idle}
-use Rattle.op_model.proofs.Shares.{idle-calm}
+use Rattle.op_model.proofs.Public.{idle-calm}
 use Rattle.dir_header.specs.HomeSides.{header_at}
-use Rattle.node_share.proofs.Homes.{home-headers}
+use Rattle.node_share.proofs.Public.{home-headers}
 use Rattle.repl_hints.proofs.Leaves.{rpl-waits, rpl-dirty, rpl-clean}
 use Rattle.repl_hints.proofs.hints.on_rpl.Goals as goal
 

@@ -5,11 +5,10 @@ use Rattle.line_map.specs.Sizes.{home_of}
 use Rattle.op_model.specs.Shares.{Share, copy_of, line_share}
 use Rattle.op_model.specs.Events.Node.{evict_line, is_silent, permit}
 use Rattle.op_model.specs.Tables.Processor.{leave_home, leave_remote}
-use Rattle.op_model.proofs.Shares.{refused-for}
+use Rattle.op_model.proofs.Public.{refused-for}
 use Rattle.cpu_cache.specs.Processors.{ProcView}
 use Rattle.node_share.specs.Parts.{share_of, row_at, sent, DoesRow}
-use Rattle.node_share.proofs.Rows.{at-home, is-away}
-use Rattle.node_share.proofs.Wants.{sent-none}
+use Rattle.node_share.proofs.Public.{at-home, is-away, sent-none}
 use Rattle.repl_hints.proofs.Evicts.{evict-allowed, evict-away, evict-home, is-silent}
 use Rattle.repl_hints.proofs.Leaves.{goes-silently, home-sends}
 use Rattle.repl_hints.proofs.leaving.evict.Goals as goal

@@ -1,7 +1,7 @@
 -- The programs are those of the trace, so the journal of their run is one of the trace.
 use Rattle.std.proofs.Common.{◌≡◌, refl}
 use Rattle.op_model.specs.Programs.{ArePrograms}
-use Rattle.commands.proofs.Programs.{own-programs}
+use Rattle.commands.proofs.Public.{own-programs}
 use Rattle.run_text.proofs.Traced.{runs-traced}
 use Rattle.run_text.proofs.text.run_text.Goals as goal
 

@@ -3,7 +3,7 @@ use Rattle.std.proofs.Common.{◌≡◌, ◌≤◌, refl, arith, ap, sym, ◌∙
 use Rattle.std.proofs.lemmas.Result.{err_from_is_err_and}
 use Rattle.op_model.specs.Run.Schedules.{finishing_next}
 use Rattle.op_model.specs.Run.Machines.{MachineRun}
-use Rattle.node_range.proofs.Traces.{turn-in}
+use Rattle.node_range.proofs.Public.{turn-in}
 use Rattle.schedule.specs.Made.{HasFinished, most_to_finish, next_with}
 use Rattle.schedule.proofs.Advances.{was-made, none-made}
 use Rattle.schedule.proofs.Chosen.{done-still}

@@ -3,7 +3,7 @@ use Rattle.std.proofs.Common.{◌≡◌, IfSome, length, arith, ap, sym, ◌∙�
 use Rattle.std.proofs.lemmas.Result.{err_from_is_err_and}
 use Rattle.op_model.specs.Run.Schedules.{IsSerial}
 use Rattle.op_model.specs.Run.Machines.{MachineRun}
-use Rattle.node_range.proofs.Traces.{trace_in, order-in}
+use Rattle.node_range.proofs.Public.{order-in, trace_in}
 use Rattle.schedule.specs.Chosen.{AreOpsIn, IsOpIn}
 use Rattle.schedule.specs.Made.{IsSerialRun, next_with}
 use Rattle.schedule.proofs.Advances.{was-made, none-made}

@@ -7,7 +7,7 @@ use Rattle.op_model.specs.Shares.{Linked}
 use Rattle.op_model.specs.Parts.Part.{Part}
 use Rattle.op_model.specs.Parts.OwnStep.{own_step}
 use Rattle.out_space.specs.Boxes.{BoxState, waiting, with_waiting}
-use Rattle.lane_table.proofs.SmallRun.{goes, drew, asking, issue_is, asking_waits, has_asked}
+use Rattle.lane_table.proofs.Public.{asking, asking_waits, drew, goes, has_asked, issue_is}
 use Rattle.seat_rows.proofs.seats.ask.Goals as goal
 
 pub ticket-requires-clause-goes : goal.ticket-requires-clause-goes

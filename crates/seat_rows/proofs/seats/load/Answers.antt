@@ -7,7 +7,7 @@ use Rattle.op_model.specs.Shares.{Linked}
 use Rattle.op_model.specs.Parts.Part.{Part, taken_from, cleared_from}
 use Rattle.op_model.specs.Parts.OwnStep.{own_step}
 use Rattle.lane_table.specs.Calls.{Finds}
-use Rattle.lane_table.proofs.SmallRun.{at_some, goes, drew, put_is}
+use Rattle.lane_table.proofs.Public.{at_some, drew, goes, put_is}
 use Rattle.seat_rows.proofs.seats.load.Goals as goal
 
 pub ticket-requires-clause-goes : goal.ticket-requires-clause-goes

@@ -2,7 +2,7 @@
 use Rattle.std.proofs.Common.{sym, ap, ◌∙◌}
 use Rattle.op_model.specs.declared.events.Class.TheVariants.{Request}
 use Rattle.op_model.specs.Parts.Part.{Part, taken_from, cleared_from}
-use Rattle.lane_table.proofs.Looking.{only_notes}
+use Rattle.lane_table.proofs.Public.{only_notes}
 use Rattle.seat_rows.proofs.seats.looks.Goals as goal
 
 pub loop-preserved : goal.loop-preserved

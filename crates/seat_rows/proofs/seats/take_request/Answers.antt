@@ -7,7 +7,8 @@ use Rattle.op_model.specs.Shares.{Linked}
 use Rattle.op_model.specs.Parts.OwnStep.{own_step}
 use Rattle.lane_table.specs.Calls.{Finds}
 use Rattle.lane_table.specs.Steps.{looked_in}
-use Rattle.lane_table.proofs.SmallRun.{at_some, at_none, goes, drew, answering, get_is, answering_clears, cleared_again, answers}
+use Rattle.lane_table.proofs.Public.{answering, answering_clears, answers, at_none, at_some, cleared_again}
+use Rattle.lane_table.proofs.Public.{drew, get_is, goes}
 use Rattle.seat_rows.proofs.seats.take_request.Goals as goal
 
 pub ticket-requires-clause-goes : goal.ticket-requires-clause-goes

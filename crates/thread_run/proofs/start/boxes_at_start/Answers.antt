@@ -1,7 +1,7 @@
 -- Each box gets the next program and the next seat.
 use Rattle.std.proofs.Common.{rules, ◌+◌, ◌<◌, ℕ, length, sym, ap, subst, ◌∙◌, arith, length-append, ◌∷◌, []}
 use Rattle.line_map.specs.Sizes.{Sizes, AreSizes}
-use Rattle.line_map.proofs.Sizable.{few-nodes}
+use Rattle.line_map.proofs.Public.{few-nodes}
 use Rattle.op_model.specs.Parts.Part.{part_at_start}
 use Rattle.op_model.specs.Programs.{IsProgramOf}
 use Rattle.lane_table.specs.Views.{TableView, SeatView, IsSeatOf}

@@ -1,6 +1,6 @@
 use Rattle.std.proofs.Common.{append_assoc, decimal}
 use Rattle.op_model.specs.Messages.{msg_line, msg_content}
-use Rattle.dir_report.proofs.Appended.{on_ok_then}
+use Rattle.dir_report.proofs.Public.{on_ok_then}
 use Rattle.time_view.specs.Messages.{rest_words}
 use Rattle.time_view.proofs.Listed.{word_first}
 use Rattle.time_view.proofs.lanes.put_message.Goals as goal

@@ -2,7 +2,7 @@ use Rattle.std.proofs.Common.{◌≡◌, ◌++◌, ◌∷◌, ℕ, codes, decima
 use Rattle.decimal_text.specs.Text.{named}
 use Rattle.text_lines.specs.Printing.{line_text}
 use Rattle.op_model.specs.declared.state.Want.{Want}
-use Rattle.dir_report.proofs.Ranges.{printed_more}
+use Rattle.dir_report.proofs.Public.{printed_more}
 use Rattle.time_view.specs.States.{node_words, want_words}
 use Rattle.time_view.proofs.nodes.put_nodes.Goals as goal
 

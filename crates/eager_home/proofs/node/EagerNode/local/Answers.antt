@@ -4,7 +4,7 @@ use Rattle.std.specs.Prelude.{IfOk}
 use Rattle.std.proofs.lemmas.Result.{IfOk-weaker}
 use Rattle.message_range.specs.Fitting.{IsSentOf}
 use Rattle.magic_node.specs.Nodes.{HasSent, input_of, node_share}
-use Rattle.magic_node.proofs.Kept.{for-other, input-of}
+use Rattle.magic_node.proofs.Public.{for-other, input-of}
 use Rattle.eager_home.specs.Aged.{AgedActs, AreWithin}
 use Rattle.eager_home.specs.Ages.{ages_of}
 use Rattle.eager_home.specs.Views.{RiseWithin, ages_in}

@@ -2,7 +2,7 @@
 use Rattle.std.proofs.Common.{◌≡◌, ◌↔◌, ◌<◌, ◌≤◌, ℕ, Bool, not, length, sym, subst, ap, ◌∙◌, arith, Option, IsNone}
 use Rattle.std.specs.Prelude.{IsTrue, is_some, ◌==◌}
 use Rattle.std.proofs.lemmas.Bool.Decides.{nat_tests}
-use Rattle.machine.proofs.Views.{true_of}
+use Rattle.machine.proofs.Public.{true_of}
 use Rattle.eager_machine.specs.Journals.{served_in}
 use Rattle.eager_machine.specs.Lanes.{UnderWay, lane_in, IsSilent}
 use Rattle.eager_machine.specs.Outboxes.{under_way}

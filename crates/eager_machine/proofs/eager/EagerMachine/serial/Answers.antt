@@ -3,7 +3,7 @@ use Rattle.std.proofs.Common.{◌≡◌, IfSome, arith, sym, subst, ◌∙◌}
 use Rattle.std.proofs.lemmas.Result.{err_from_is_err_and}
 use Rattle.op_model.specs.Programs.{programs_of}
 use Rattle.schedule.specs.Chosen.{IsOpIn}
-use Rattle.schedule.proofs.Current.{completed-none, op-at-in}
+use Rattle.schedule.proofs.Public.{completed-none, op-at-in}
 use Rattle.eager_machine.proofs.Serials.{answered, begins, completed-there, enabled-there, fewer-left, goes-there, has-begun, keeps, ops-are, way-there, whole-there}
 use Rattle.eager_machine.proofs.eager.EagerMachine.serial.Goals as goal
 

@@ -7,7 +7,7 @@ use Rattle.op_model.specs.Parts.OwnStep.{after_outcome, own_step}
 use Rattle.op_model.specs.Parts.Part.{Part, logged}
 use Rattle.msg_words.specs.SendList.{SendList}
 use Rattle.magic_node.specs.Nodes.{input_of, FitsEvent}
-use Rattle.lane_table.proofs.SmallRun.{goes}
+use Rattle.lane_table.proofs.Public.{goes}
 use Rattle.node_box.specs.Boxes.{LinkedNode, BoxView, IsBox, outcome_at}
 use Rattle.node_box.specs.Outgoing.{HasRoomFor, IsPut}
 use Rattle.node_box.specs.Events.{event_of, IsGate, Acts}

@@ -1,5 +1,5 @@
 use Rattle.std.proofs.Common.{sym, subst, refl}
-use Rattle.lane_table.proofs.Looking.{only_notes}
+use Rattle.lane_table.proofs.Public.{only_notes}
 use Rattle.node_box.specs.Boxes.{BoxView, IsBox}
 use Rattle.node_box.proofs.Flushing.{noted_box}
 use Rattle.node_box.proofs.open_box.OpenBox.look.Goals as goal

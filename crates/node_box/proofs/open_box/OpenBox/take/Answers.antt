@@ -11,7 +11,7 @@ use Rattle.op_model.specs.Parts.OwnStep.{own_step}
 use Rattle.op_model.specs.Parts.Part.{Part, logged, in_note, named}
 use Rattle.msg_words.specs.SendList.{SendList}
 use Rattle.lane_table.specs.Steps.{freed}
-use Rattle.lane_table.proofs.SmallRun.{goes}
+use Rattle.lane_table.proofs.Public.{goes}
 use Rattle.node_box.specs.Boxes.{BoxView, IsBox, outcome_at}
 use Rattle.node_box.specs.Outgoing.{HasRoomFor, IsPut}
 use Rattle.node_box.specs.Events.{Takes}

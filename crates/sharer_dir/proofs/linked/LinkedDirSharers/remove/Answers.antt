@@ -1,7 +1,7 @@
 -- The first link's node follows a head that goes; another node goes with its link.
 use Rattle.std.proofs.Common.{◌<◌, ◌∙◌, length, arith, refl, sym}
 use Rattle.link_store.specs.Pools.{chain_of, link_with}
-use Rattle.dir_header.proofs.Directories.{unlist-same}
+use Rattle.dir_header.proofs.Public.{unlist-same}
 use Rattle.sharer_dir.specs.Linked.{linked_directory}
 use Rattle.sharer_dir.specs.Kept.{linked_view}
 use Rattle.sharer_dir.proofs.Changed.{head_removed, link_removed}
