@@ -22,6 +22,7 @@ impl<R: Read> Model for StdSource<R> {
 }
 
 impl<R: Read> StdSource<R> {
+    /// A source of the bytes that a reader has left; no read of it has failed yet.
     pub fn new(inner: R) -> StdSource<R>
         ensures { result ≡ record { bytes = R.remaining inner; faults = 0 } }
     {
@@ -61,6 +62,7 @@ impl<W: Write> Model for StdSink<W> {
 }
 
 impl<W: Write> StdSink<W> {
+    /// A sink that hands its bytes on to a writer, with what that holds already; no write to it has failed yet.
     pub fn new(inner: W) -> StdSink<W>
         ensures { result ≡ record { bytes = W.contents inner; faults = 0 } }
     {
