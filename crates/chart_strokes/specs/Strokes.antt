@@ -1,6 +1,6 @@
 -- The strokes of a run: what its chart shows of each event, in their order.
 use Rattle.std.specs.Prelude.{ℕ, suc, ◌++◌, Bool, false, if◌then◌else◌, ◌&&◌, ◌||◌, ◌==◌, nat_lt, List, [], ◌∷◌, length, map, drop, slice_get, Option, Some, None, Result, Ok, Err}
-use Rattle.line_map.specs.Sizes.{Sizes, line_of, home_of}
+use Rattle.line_map.specs.Sizes.{Sizes, line_of}
 use Rattle.op_model.specs.declared.events.Class.{Class}
 use Rattle.op_model.specs.declared.messages.Msg.{Msg}
 use Rattle.op_model.specs.Messages.{msg_line}
@@ -10,7 +10,7 @@ use Rattle.op_model.specs.declared.events.Cause.{Cause}
 use Rattle.op_model.specs.declared.events.Event.{Event}
 use Rattle.op_model.specs.declared.events.Event.TheVariants.{Hit, Issue, Evict, Take, Reclaim}
 use Rattle.op_model.specs.Shares.{Charge, State}
-use Rattle.op_model.specs.Events.Step.{Programs, Done, effect, to_lane}
+use Rattle.op_model.specs.Events.Step.{Programs, Done, effect, to_lane, event_node}
 use Rattle.op_model.specs.Run.Runs.{Past, past_after, start}
 use Rattle.op_model.specs.Run.Counts.{taken_by}
 use Rattle.op_model.specs.Run.Machines.{MachineRun}
@@ -42,14 +42,6 @@ letter_taken letters (Take src dst class victim) = slice_get (letters src dst cl
 letter_taken letters _ = None
 
 -- ---- one event
-
--- the node at which an event happens
-abbrev pub node_of : Sizes → Event → ℕ
-node_of sizes (Hit node) = node
-node_of sizes (Issue node) = node
-node_of sizes (Evict node line kind) = node
-node_of sizes (Take src dst class victim) = dst
-node_of sizes (Reclaim line) = home_of sizes line
 
 -- the operation at a node's place
 abbrev pub next_op : Programs → State → ℕ → Option Op
@@ -86,11 +78,11 @@ stroke_of sizes programs number letters before event after =
     record {
       number = number;
       event = event;
-      node = node_of sizes event;
+      node = event_node sizes event;
       line = line_of_event sizes programs before.state event;
       letter = letter_taken letters event;
       served = slice_get after.served (length before.served);
-      completed = completed_at (node_of sizes event) before after;
+      completed = completed_at (event_node sizes event) before after;
     }
 
 -- ---- all events

@@ -8,12 +8,11 @@ use Rattle.op_model.specs.declared.events.Class.{Class}
 use Rattle.op_model.specs.declared.events.Event.{Event}
 use Rattle.op_model.specs.declared.messages.Msg.{Msg}
 use Rattle.op_model.specs.Messages.{Content, Get, GetX, FwdGet, FwdGetX, Inv, Wb, Rpl, Put, PutX, Nak, InvAck, ShWb, FAck, Nakc, msg_content}
-use Rattle.op_model.specs.Events.Step.{Programs, to_lane}
+use Rattle.op_model.specs.Events.Step.{Programs, to_lane, off_of}
 use Rattle.op_model.specs.Programs.{programs_of}
 use Rattle.event_tally.specs.Marks.{naks_in, marks_of, marked_up}
 use Rattle.event_tally.specs.Tallies.{tally_of}
 use Rattle.event_tally.proofs.Public.{tally_of-few, tally_of-push}
-use Rattle.machine.specs.Acts.{off_of}
 use Rattle.eager_model.specs.Ages.{sent_age}
 use Rattle.eager_model.specs.Runs.{AgedEntry, Past, past_after, run_by, start}
 use Rattle.eager_machine.specs.declared.acts.Act.{Act}

@@ -6,7 +6,7 @@ use Rattle.op_model.specs.declared.events.Cause.{Cause}
 use Rattle.op_model.specs.declared.events.Event.{Event}
 use Rattle.op_model.specs.declared.messages.Msg.{Msg}
 use Rattle.op_model.specs.Events.Node.{Input, NodeOutcome, map_ok}
-use Rattle.op_model.specs.Events.Step.{Off, Programs, put_at}
+use Rattle.op_model.specs.Events.Step.{Off, Programs, put_at, off_of}
 use Rattle.op_model.specs.Lines.{Service, NoService, Own, For}
 use Rattle.op_model.specs.Messages.{msg_line}
 use Rattle.op_model.specs.Programs.{programs_of}
@@ -17,7 +17,7 @@ use Rattle.cpu_cache.specs.Effects.{served_of}
 use Rattle.cpu_cache.specs.declared.effects.Effect.{Effect}
 use Rattle.msg_words.specs.SendList.{SendList}
 use Rattle.event_tally.specs.Marks.{take_marks_of}
-use Rattle.machine.specs.Acts.{off_of, entries_after}
+use Rattle.machine.specs.Acts.{entries_after}
 use Rattle.machine.proofs.Public.{served-after}
 use Rattle.eager_model.specs.Node.{Aged, aged, local, put_ages}
 use Rattle.eager_model.specs.Runs.{aged_entries}

@@ -5,11 +5,10 @@ use Rattle.op_model.specs.declared.events.Cause.{Cause}
 use Rattle.op_model.specs.declared.events.Event.{Event}
 use Rattle.op_model.specs.declared.messages.Msg.{Msg}
 use Rattle.op_model.specs.Events.Node.{Input}
-use Rattle.op_model.specs.Events.Step.{none_off}
+use Rattle.op_model.specs.Events.Step.{none_off, off_of}
 use Rattle.op_model.specs.Programs.{programs_of}
 use Rattle.op_model.specs.Run.Counts.{taken_by, takes_marked}
 use Rattle.event_tally.specs.Marks.{take_marks_of}
-use Rattle.machine.specs.Acts.{off_of}
 use Rattle.eager_model.specs.Step.{answer, at_node, effect}
 use Rattle.eager_home.specs.Views.{EagerView}
 use Rattle.eager_machine.specs.declared.acts.Act.{Act}

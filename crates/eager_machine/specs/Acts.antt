@@ -7,7 +7,7 @@ use Rattle.op_model.specs.declared.events.Event.{Event}
 use Rattle.op_model.specs.declared.messages.Msg.{Msg}
 use Rattle.op_model.specs.declared.operations.Entry.{Entry}
 use Rattle.op_model.specs.Events.Node.{Input}
-use Rattle.op_model.specs.Events.Step.{put_at}
+use Rattle.op_model.specs.Events.Step.{put_at, off_of}
 use Rattle.op_model.specs.MessageWords.{IsMsgOf}
 use Rattle.op_model.specs.Operations.{Words}
 use Rattle.op_model.specs.Programs.{programs_of}
@@ -15,7 +15,7 @@ use Rattle.message_range.specs.Fitting.{IsSentOf}
 use Rattle.msg_words.specs.SendList.{SendList}
 use Rattle.event_tally.specs.Marks.{take_marks_of}
 use Rattle.event_tally.specs.Tallies.{TellsMarks}
-use Rattle.machine.specs.Acts.{off_of, entries_after}
+use Rattle.machine.specs.Acts.{entries_after}
 use Rattle.eager_model.specs.Node.{local, meets_row, put_ages}
 use Rattle.eager_model.specs.Runs.{AgedEntry, aged_entries}
 use Rattle.eager_model.specs.Step.{AgedDone, effect, without_ages}

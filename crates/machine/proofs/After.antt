@@ -11,7 +11,7 @@ use Rattle.op_model.specs.Lines.{Service, NoService, Own, For}
 use Rattle.op_model.specs.Messages.{msg_line}
 use Rattle.op_model.specs.OwnPart.{IsOwnPart}
 use Rattle.op_model.specs.Shares.{Charge, Lanes, Share, want_on, program}
-use Rattle.op_model.specs.Events.Step.{Programs, Done, effect, after, to_lane}
+use Rattle.op_model.specs.Events.Step.{Programs, Done, effect, after, to_lane, off_of}
 use Rattle.op_model.specs.Run.Runs.{Past, past_after, start, run_by, entries_of, entry_for}
 use Rattle.op_model.specs.Run.Counts.{moments, taken_by}
 use Rattle.message_range.specs.Fitting.{IsSentOf}
@@ -24,7 +24,7 @@ use Rattle.event_tally.specs.Tallies.{tally_of, TellsMarks}
 use Rattle.event_tally.proofs.Public.{tally_of-few, tally_of-push}
 use Rattle.machine.specs.declared.acts.Act.{Act}
 use Rattle.machine.specs.Kept.{share_or, share_in, state_of, programs_in, charge_in, left_in, AreNodes, moments_in, no_sends, AreLanesOf, IsKept}
-use Rattle.machine.specs.Acts.{sent_from, taken_off, off_of, entries_after, FitsAll, IsRead, IsAct}
+use Rattle.machine.specs.Acts.{sent_from, taken_off, entries_after, FitsAll, IsRead, IsAct}
 use Rattle.machine.proofs.Faces.{local-at, share_in-set, programs_of-at, programs_in-set, charge_in-set, nodes-set, left-set}
 use Rattle.machine.proofs.Laws.{lane-fits, length-sent, programs-are, traced, machine-trace}
 use Rattle.machine.proofs.Programs.{trace_by, program-of}

@@ -9,7 +9,7 @@ use Rattle.op_model.specs.declared.messages.Msg.{Msg}
 use Rattle.op_model.specs.Messages.{msg_content}
 use Rattle.op_model.specs.Shares.{Charge, Lanes}
 use Rattle.op_model.specs.Events.Node.{Input, TakeFrom, NodeOutcome, local, permit}
-use Rattle.op_model.specs.Events.Step.{Off, none_off, one_off, act, take_front, effect, is_departure}
+use Rattle.op_model.specs.Events.Step.{Off, none_off, one_off, act, take_front, effect, is_departure, off_of}
 use Rattle.op_model.specs.Run.Counts.{front_of, taken_by, takes_marked}
 use Rattle.magic_node.specs.declared.acts.LocalEvent.{LocalEvent}
 use Rattle.cpu_cache.specs.declared.effects.Effect.{Effect}
@@ -17,7 +17,7 @@ use Rattle.lane_queues.specs.LaneStates.{HasFront}
 use Rattle.event_tally.specs.Marks.{take_marks_of, is_marked_put}
 use Rattle.machine.specs.declared.acts.Act.{Act}
 use Rattle.machine.specs.Kept.{programs_in, share_in, state_of, AreNodes}
-use Rattle.machine.specs.Acts.{off_of, IsDoneAt, IsRefusedAt, IsNoted, IsAlone, TakesFront, IsAct, IsRefusedIn, IsRead, permit_at, IsPermitIn}
+use Rattle.machine.specs.Acts.{IsDoneAt, IsRefusedAt, IsNoted, IsAlone, TakesFront, IsAct, IsRefusedIn, IsRead, permit_at, IsPermitIn}
 use Rattle.machine.proofs.Faces.{local-at}
 use Rattle.machine.specs.Faces.{Face}
 use Rattle.magic_node.specs.Nodes.{input_of}

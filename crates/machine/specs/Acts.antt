@@ -12,7 +12,7 @@ use Rattle.op_model.specs.Lines.{For}
 use Rattle.op_model.specs.Operations.{Words}
 use Rattle.op_model.specs.Shares.{Charge, Lanes, Share, want_on}
 use Rattle.op_model.specs.Events.Node.{Input, NodeOutcome, meets_row, local, permit}
-use Rattle.op_model.specs.Events.Step.{Off, none_off, one_off, to_lane}
+use Rattle.op_model.specs.Events.Step.{to_lane, off_of}
 use Rattle.op_model.specs.Events.Step.{effect as effect_of}
 use Rattle.op_model.specs.Run.Counts.{taken_by, takes_marked}
 use Rattle.op_model.specs.Run.Runs.{entry_for}
@@ -35,11 +35,7 @@ sent_by put node sends lane a b class = lane a b class ++ (if a == node then put
 abbrev pub sent_from : ℕ → List (ℕ × Msg) → Lanes → Lanes
 sent_from node sends lane a b class = sent_by (λ messages. messages) node sends lane a b class
 
--- how many messages an event takes from the front of each lane, and the lanes without them
-abbrev pub off_of : Event → Off
-off_of (Take src dst class victim) = one_off src dst class
-off_of _ = none_off
-
+-- the lanes without the messages that an event takes
 abbrev pub taken_off : {A : Type 0} → Event → (ℕ → ℕ → Class → List A) → ℕ → ℕ → Class → List A
 taken_off event lane a b class = drop (off_of event a b class) (lane a b class)
 

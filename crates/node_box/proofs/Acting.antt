@@ -15,7 +15,7 @@ use Rattle.op_model.specs.Operations.{Words}
 use Rattle.op_model.specs.Programs.{IsProgramOf}
 use Rattle.op_model.specs.Shares.{Linked, Share}
 use Rattle.op_model.specs.Events.Node.{NodeOutcome, EvictLine}
-use Rattle.op_model.specs.Events.Step.{to_lane}
+use Rattle.op_model.specs.Events.Step.{to_lane, event_node}
 use Rattle.op_model.specs.Run.Bounds.{lane_bound}
 use Rattle.op_model.specs.Parts.Part.{Part, ByLane, at_lane, logged, sent_to, flushed_to, taken_from, cleared_from, last_departs, departs_at, own_room}
 use Rattle.op_model.specs.Parts.OwnStep.{after_outcome, own_step}
@@ -31,7 +31,7 @@ use Rattle.magic_node.specs.declared.acts.LocalEvent.TheVariants as own
 use Rattle.lane_table.specs.Told.{unflushed, IsOutgoing}
 use Rattle.lane_table.specs.Views.{TableView, IsSeatOf}
 use Rattle.lane_table.proofs.Public.{drew, has_place, sent_more}
-use Rattle.node_box.specs.Boxes.{LinkedNode, BoxView, node_of, outcome_at, event_node, IsOwnLog, IsBox}
+use Rattle.node_box.specs.Boxes.{LinkedNode, BoxView, node_of, outcome_at, IsOwnLog, IsBox}
 use Rattle.node_box.specs.Outgoing.{HasRoomFor, IsPut}
 use Rattle.node_box.specs.Events.{event_of, IsGate}
 use Rattle.node_box.proofs.Issuing.{own_line}

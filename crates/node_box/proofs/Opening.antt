@@ -6,12 +6,12 @@ use Rattle.line_map.specs.Sizes.{Sizes}
 use Rattle.op_model.specs.declared.events.Numbered.{Numbered}
 use Rattle.op_model.specs.declared.events.Class.{Class}
 use Rattle.op_model.specs.declared.events.Class.TheVariants.{Request}
-use Rattle.op_model.specs.Events.Step.{to_lane}
+use Rattle.op_model.specs.Events.Step.{to_lane, event_node}
 use Rattle.op_model.specs.Programs.{IsProgramOf}
 use Rattle.op_model.specs.Parts.Part.{Part, at_lane, sent_to, flushed_to, taken_from, cleared_from, last_departs}
 use Rattle.out_space.specs.Boxes.{empty_box, waiting, waiting-empty_box}
 use Rattle.lane_table.specs.Views.{TableView, IsSeatOf}
-use Rattle.node_box.specs.Boxes.{LinkedNode, BoxView, node_of, event_node, IsOwnLog, IsBox}
+use Rattle.node_box.specs.Boxes.{LinkedNode, BoxView, node_of, IsOwnLog, IsBox}
 
 none_there : (n i : ℕ) → slice_index_or (replicate n false) i false ≡ false
 none_there zero i = refl

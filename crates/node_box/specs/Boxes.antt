@@ -1,13 +1,11 @@
 -- The box of one node.
 use Rattle.std.specs.Prelude.{◌≡◌, ℕ, ◌+◌, ◌<◌, ◌≤◌, Bool, false, List, [], length, slice_index_or, Result, All, refl}
 use Rattle.std.specs.Coded.{Coded, code_by, coded×, coded_ℕ, coded_bool, coded_list}
-use Rattle.line_map.specs.Sizes.{Sizes, home_of}
+use Rattle.line_map.specs.Sizes.{Sizes}
 use Rattle.line_map.specs.Codes.{sizes_code}
 use Rattle.op_model.specs.contracts.messages.Msg as msg_type
 use Rattle.op_model.specs.contracts.events.Numbered as numbered_type
 use Rattle.op_model.specs.declared.events.Cause.{Cause}
-use Rattle.op_model.specs.declared.events.Event.{Event}
-use Rattle.op_model.specs.declared.events.Event.TheVariants.{Hit, Issue, Evict, Take, Reclaim}
 use Rattle.op_model.specs.declared.events.Numbered.{Numbered}
 use Rattle.op_model.specs.declared.events.Class.{Class}
 use Rattle.op_model.specs.declared.events.Class.TheVariants.{Request}
@@ -16,6 +14,7 @@ use Rattle.op_model.specs.Events.Node.{Input, NodeOutcome, local}
 use Rattle.op_model.specs.Programs.{IsProgramOf}
 use Rattle.op_model.specs.Shares.{Linked}
 use Rattle.op_model.specs.Parts.Part.{Part, sent_to, flushed_to, taken_from, cleared_from, last_departs}
+use Rattle.op_model.specs.Events.Step.{event_node}
 use Rattle.msg_words.specs.SendList.{SendList}
 use Rattle.sharer_dir.specs.Linked.{LinkedView, linked_code}
 use Rattle.out_space.specs.Boxes.{BoxState, waiting}
@@ -37,14 +36,6 @@ outcome_at node input = local node.charge node.sizes node.number node.program no
 -- the node whose part this is, with this directory
 abbrev pub node_of : Part → LinkedView → LinkedNode
 node_of part dir = record { sizes = part.sizes; number = part.number; program = part.program; charge = Linked; share = part.share; dir = dir }
-
--- the node that an event is one of: that of a Take is its taker, and that of a Reclaim is the home of its line
-abbrev pub event_node : Sizes → Event → ℕ
-event_node sizes (Hit node) = node
-event_node sizes (Issue node) = node
-event_node sizes (Evict node line kind) = node
-event_node sizes (Take src dst class victim) = dst
-event_node sizes (Reclaim line) = home_of sizes line
 
 -- each event of a log is one of this node
 abbrev pub IsOwnLog : Sizes → ℕ → List Numbered → Type 0

@@ -17,15 +17,15 @@ use Rattle.op_model.specs.declared.operations.Entry.{Entry}
 use Rattle.op_model.specs.Messages.{same_class, msg_class}
 use Rattle.op_model.specs.Shares.{Charge, State, Lanes}
 use Rattle.op_model.specs.Events.Node.{NodeOutcome, TakeFrom, local}
-use Rattle.op_model.specs.Events.Step.{Programs, Done, Off, act, effect, take_front, none_off, one_off, to_lane, and_then}
+use Rattle.op_model.specs.Events.Step.{Programs, Done, Off, act, effect, take_front, none_off, one_off, to_lane, and_then, event_node, off_of}
 use Rattle.op_model.specs.Run.Runs.{Past, past_after, run_by}
 use Rattle.op_model.specs.Run.Machines.{MachineRun, IsRunning, IsApplied, IsEventOf, effect_on, with_event}
 use Rattle.chart_strokes.specs.declared.strokes.Letter.{Letter}
 use Rattle.chart_strokes.specs.declared.strokes.Stroke.{Stroke}
-use Rattle.chart_strokes.specs.Strokes.{letter, posted, letters_after, node_of, Charted, charted_after, charted_then, charted, first_chart, chart_of, strokes_of, stroke_of, letter_taken, entry_at}
+use Rattle.chart_strokes.specs.Strokes.{letter, posted, letters_after, Charted, charted_after, charted_then, charted, first_chart, chart_of, strokes_of, stroke_of, letter_taken, entry_at}
 use Rattle.run_chart.specs.declared.before.Before.{Before}
 use Rattle.run_chart.specs.Charts.{ChartView, in_lane, IsBefore, IsChartOf}
-use Rattle.run_chart.specs.Lettered.{off_by, new_letters, AreOfClass, ArePosted}
+use Rattle.run_chart.specs.Lettered.{new_letters, AreOfClass, ArePosted}
 
 -- ---- what an event does
 
@@ -36,7 +36,7 @@ act-is node off (Ok out) done is =
 act-is node off (Err cause) done is = cc
 
 -- it is done at its node, and takes its message
-pub effect-is : (charge : Charge) (sizes : Sizes) (programs : Programs) (state : State) (event : Event) (done : Done) → effect charge sizes programs state event ≡ Ok done → (done.node ≡ node_of sizes event) × (done.off ≡ off_by event)
+pub effect-is : (charge : Charge) (sizes : Sizes) (programs : Programs) (state : State) (event : Event) (done : Done) → effect charge sizes programs state event ≡ Ok done → (done.node ≡ event_node sizes event) × (done.off ≡ off_of event)
 effect-is charge sizes programs state (Hit node) done is = act-is node none_off _ done is
 effect-is charge sizes programs state (Issue node) done is = act-is node none_off _ done is
 effect-is charge sizes programs state (Evict node line kind) done is = act-is node none_off _ done is
@@ -198,9 +198,9 @@ module _ (was : MachineRun) (event : Event) (done : Done) (does : effect_on was 
   pub chart-past : chart.past ≡ was.past
   chart-past = charted-past was.charge was.sizes was.programs (first_chart was.sizes) was.past was.events running.ran
 
-  pub still-charted : (old : ChartView) (taken new : List Letter) (stroke : Stroke) (number node : ℕ) → IsChartOf was old → ((a b : ℕ) (k : Class) → in_lane taken a b k ≡ drop (off_by event a b k) (in_lane old.letters a b k)) →
+  pub still-charted : (old : ChartView) (taken new : List Letter) (stroke : Stroke) (number node : ℕ) → IsChartOf was old → ((a b : ℕ) (k : Class) → in_lane taken a b k ≡ drop (off_of event a b k) (in_lane old.letters a b k)) →
       (AreOfClass node was.sizes.nodes after.past.state.lane → ArePosted number node was.sizes.nodes after.past.state.lane taken new) →
-      number ≡ length old.strokes + 1 → node ≡ node_of was.sizes event → stroke ≡ stroke_of was.sizes was.programs number chart.letters was.past event after.past → IsChartOf after (record { letters = new; strokes = old.strokes ++ stroke ∷ [] })
+      number ≡ length old.strokes + 1 → node ≡ event_node was.sizes event → stroke ≡ stroke_of was.sizes was.programs number chart.letters was.past event after.past → IsChartOf after (record { letters = new; strokes = old.strokes ++ stroke ∷ [] })
   unfolding strokes_of
   still-charted old taken new stroke number node was_it left posts count at is =
       let of_it = effect-is was.charge was.sizes was.programs was.past.state event done does in
@@ -213,7 +213,7 @@ module _ (was : MachineRun) (event : Event) (done : Done) (does : effect_on was 
       (subst (λ (k : ℕ). ArePosted k done.node was.sizes.nodes after.past.state.lane taken new) same_count
       (subst (λ (k : ℕ). ArePosted number k was.sizes.nodes after.past.state.lane taken new) same_node (posts of_class))) in
       let left_all : (a b : ℕ) (k : Class) → a < was.sizes.nodes → b < was.sizes.nodes → in_lane taken a b k ≡ drop (done.off a b k) (chart.letters a b k) =
-      (λ a b k from to. left a b k ∙ ap (λ (ls : List Letter). drop (off_by event a b k) ls) (was_it.letters a b k from to) ∙ ap (λ (off : Off). drop (off a b k) (chart.letters a b k)) (sym of_it.1)) in
+      (λ a b k from to. left a b k ∙ ap (λ (ls : List Letter). drop (off_of event a b k) ls) (was_it.letters a b k from to) ∙ ap (λ (off : Off). drop (off a b k) (chart.letters a b k)) (sym of_it.1)) in
       let same_stroke : stroke ≡ stroke_of was.sizes was.programs (suc (length chart.strokes)) chart.letters chart.past event (past_after was.sizes chart.past done) =
       is ∙ ap (λ (k : ℕ). stroke_of was.sizes was.programs k chart.letters was.past event after.past) same_count
       ∙ ap (λ (p : Past). stroke_of was.sizes was.programs (suc (length chart.strokes)) chart.letters p event (past_after was.sizes p done)) (sym chart-past) in
@@ -237,7 +237,7 @@ noted_stroke number event before sent served completed = record { number = numbe
 pub record IsNoted (now : MachineRun) (event : Event) (before : Before) (old : ChartView) (taken new : List Letter) (number : ℕ) (sent : Option Letter) (entry done : Option Entry) : Type 0 where
   pub count : number ≡ length old.strokes + 1
   pub taken_is : sent ≡ letter_taken (in_lane old.letters) event
-  pub left : (a b : ℕ) (k : Class) → in_lane taken a b k ≡ drop (off_by event a b k) (in_lane old.letters a b k)
+  pub left : (a b : ℕ) (k : Class) → in_lane taken a b k ≡ drop (off_of event a b k) (in_lane old.letters a b k)
   pub posts : AreOfClass before.node now.sizes.nodes now.past.state.lane → ArePosted number before.node now.sizes.nodes now.past.state.lane taken new
   pub served : entry ≡ slice_get now.past.served before.served
   pub completed : done ≡ cond (nat_lt before.place (now.past.state.share before.node).place) (entry_at before.node before.place now.past.served) None
@@ -247,11 +247,11 @@ module _ (was : MachineRun) (event : Event) (before : Before) (old : ChartView) 
   abbrev last : Past
   last = past_after was.sizes was.past done
 
-  same-completed : completed ≡ cond (nat_lt (was.past.state.share (node_of was.sizes event)).place (last.state.share (node_of was.sizes event)).place) (entry_at (node_of was.sizes event) (was.past.state.share (node_of was.sizes event)).place last.served) None
+  same-completed : completed ≡ cond (nat_lt (was.past.state.share (event_node was.sizes event)).place (last.state.share (event_node was.sizes event)).place) (entry_at (event_node was.sizes event) (was.past.state.share (event_node was.sizes event)).place last.served) None
   same-completed =
       is.completed
       ∙ ap (λ (n : ℕ). cond (nat_lt before.place (last.state.share n).place) (entry_at n before.place last.served) None) known.node
-      ∙ ap (λ (p : ℕ). cond (nat_lt p (last.state.share (node_of was.sizes event)).place) (entry_at (node_of was.sizes event) p last.served) None) known.place
+      ∙ ap (λ (p : ℕ). cond (nat_lt p (last.state.share (event_node was.sizes event)).place) (entry_at (event_node was.sizes event) p last.served) None) known.place
 
   same-served : entry ≡ slice_get last.served (length was.past.served)
   same-served = is.served ∙ ap (λ (n : ℕ). slice_get last.served n) known.served

@@ -4,9 +4,10 @@ use Rattle.op_model.specs.declared.events.Class.{Class}
 use Rattle.op_model.specs.declared.events.Event.{Event}
 use Rattle.op_model.specs.Messages.{same_class, msg_class}
 use Rattle.op_model.specs.Run.Machines.{MachineRun}
+use Rattle.op_model.specs.Events.Step.{event_node}
 use Rattle.chart_strokes.specs.declared.strokes.Letter.{Letter}
 use Rattle.chart_strokes.specs.declared.strokes.Stroke.{Stroke}
-use Rattle.chart_strokes.specs.Strokes.{Letters, node_of, line_of_event, chart_of, strokes_of}
+use Rattle.chart_strokes.specs.Strokes.{Letters, line_of_event, chart_of, strokes_of}
 use Rattle.run_chart.specs.declared.before.Before.{Before}
 
 -- the letters under way in the order in which they were sent, and the strokes so far
@@ -24,8 +25,8 @@ in_lane letters src dst class = filter (is_in_lane src dst class) letters
 
 -- what is known of an event before it is made
 pub record IsBefore (m : MachineRun) (event : Event) (before : Before) : Type 0 where
-  pub node : before.node ≡ node_of m.sizes event
-  pub place : before.place ≡ (m.past.state.share (node_of m.sizes event)).place
+  pub node : before.node ≡ event_node m.sizes event
+  pub place : before.place ≡ (m.past.state.share (event_node m.sizes event)).place
   pub line : before.line ≡ line_of_event m.sizes m.programs m.past.state event
   pub served : before.served ≡ length m.past.served
 

@@ -2,20 +2,12 @@
 use Rattle.std.specs.Prelude.{◌≡◌, ℕ, ◌<◌, ◌≢◌, true, List, ◌++◌, length, map, drop}
 use Rattle.std.specs.List.{All}
 use Rattle.op_model.specs.declared.events.Class.{Class}
-use Rattle.op_model.specs.declared.events.Event.{Event}
-use Rattle.op_model.specs.declared.events.Event.TheVariants.{Take}
 use Rattle.op_model.specs.declared.messages.Msg.{Msg}
 use Rattle.op_model.specs.Messages.{same_class, msg_class}
 use Rattle.op_model.specs.Shares.{Lanes}
-use Rattle.op_model.specs.Events.Step.{Off, none_off, one_off}
 use Rattle.chart_strokes.specs.declared.strokes.Letter.{Letter}
 use Rattle.chart_strokes.specs.Strokes.{letter}
 use Rattle.run_chart.specs.Charts.{in_lane}
-
--- how many messages an event takes from the front of each lane
-abbrev pub off_by : Event → Off
-off_by (Take src dst class victim) = one_off src dst class
-off_by _ = none_off
 
 -- the messages of a lane behind those that are letters already, as letters with this number
 abbrev pub new_letters : ℕ → ℕ → ℕ → Class → List Letter → List Msg → List Letter

@@ -3,7 +3,8 @@
 ghost use Rattle.std.specs.Prelude.{◌≡◌, ◌<◌};
 ghost use Rattle.op_model.specs.Run.Counts.{front_of};
 ghost use Rattle.op_model.specs.Run.Machines.{IsEventOf};
-ghost use Rattle.chart_strokes.specs.Strokes.{node_of as node_at, next_op, line_of_op, line_of_message, line_of_event};
+ghost use Rattle.op_model.specs.Events.Step.{event_node};
+ghost use Rattle.chart_strokes.specs.Strokes.{next_op, line_of_op, line_of_message, line_of_event};
 ghost use Rattle.run_chart.specs.Charts.{IsBefore};
 
 use line_map::Machine;
@@ -39,7 +40,7 @@ impl Before {
 /// The node at which an event happens.
 fn node_of(cfg: &Machine, event: Event) -> u32
     requires { IsEventOf cfg.now event }
-    ensures value { result ≡ node_at cfg.now event }
+    ensures value { result ≡ event_node cfg.now event }
     ensures of_machine { result < cfg.now.nodes }
 {
     match event {

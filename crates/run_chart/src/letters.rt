@@ -2,10 +2,9 @@
 
 ghost use Rattle.std.specs.Prelude.{◌≡◌, ℕ, length, drop, slice_get};
 ghost use Rattle.std.specs.List.{position};
-ghost use Rattle.op_model.specs.Events.Step.{one_off};
+ghost use Rattle.op_model.specs.Events.Step.{one_off, off_of};
 ghost use Rattle.chart_strokes.specs.Strokes.{letter_taken};
 ghost use Rattle.run_chart.specs.Charts.{is_in_lane, in_lane};
-ghost use Rattle.run_chart.specs.Lettered.{off_by};
 
 use chart_strokes::Letter;
 use op_model::{Class, Event};
@@ -51,7 +50,7 @@ fn take_first(letters: &mut Vec<Letter>, src: u32, dst: u32, class: Class) -> Op
 /// Takes the letter that an event takes, if it takes one.
 pub(crate) fn take(letters: &mut Vec<Letter>, event: Event) -> Option<Letter>
     ensures taken { result ≡ letter_taken (in_lane letters.old.items) event }
-    ensures left { (a b : ℕ) (k : Class) → in_lane letters.new.items a b k ≡ drop (off_by event a b k) (in_lane letters.old.items a b k) }
+    ensures left { (a b : ℕ) (k : Class) → in_lane letters.new.items a b k ≡ drop (off_of event a b k) (in_lane letters.old.items a b k) }
 {
     match event {
         Event::Take {
