@@ -3,7 +3,7 @@
 //! A row of the whole machine is that row of its line and leaves every other line as it was, so that what holds of one line holds of each. `IsSound` of `specs/Sound.antt` says it, with program order, legality on one flat memory, and the cache sets. The functions here do nothing; their contracts are the laws, for either charge.
 #![tactic(auto)]
 
-ghost use Rattle.std.specs.Prelude.{◌≡◌, ◌<◌, ℕ, Bool, true, false, List, ◌∷◌, ◌++◌, [], Some, Ok};
+ghost use Rattle.std.specs.Prelude.{◌≡◌, ℕ, true, false, List, ◌∷◌, ◌++◌, [], Ok};
 ghost use Rattle.line_map.specs.Sizes.{Sizes};
 ghost use Rattle.op_model.specs.declared.operations.Op.{Op};
 ghost use Rattle.op_model.specs.declared.events.Class.{Class};
@@ -13,25 +13,25 @@ ghost use Rattle.op_model.specs.declared.messages.Msg.{Msg};
 ghost use Rattle.op_model.specs.Shares.{Trace, program, Charge, Share, State};
 ghost use Rattle.op_model.specs.Events.Node.{EvictLine, NodeOutcome, meets_row, local};
 ghost use Rattle.op_model.specs.Events.Step.{Programs, states, then_step};
-ghost use Rattle.op_model.specs.Run.Runs.{Past, run, run_from, state_of};
+ghost use Rattle.op_model.specs.Run.Runs.{Past, InEveryRun, run_from, state_of};
 ghost use Rattle.op_model.specs.Run.History.{entries_by, IsOneHistory};
 ghost use Rattle.one_history.specs.Sound.{IsOrdered, IsCached, IsSound};
 
 /// The completed operations of every run, in the order in which they are served, are one history of one flat memory. What each node has served are the first operations of its program, in order. A cache set never holds two lines, nor another one than a node waits for.
 pub fn every_run()
-    ensures one { (charge : Charge) (trace : Trace) (events : List Event) (past : Past) → 0 < trace.sizes.words → run charge trace events ≡ Some past → IsOneHistory charge trace events past }
-    ensures ordered { (charge : Charge) (trace : Trace) (events : List Event) (past : Past) (node : ℕ) → 0 < trace.sizes.words → run charge trace events ≡ Some past → IsOrdered trace node (past.state.share node) (entries_by node past.served) }
-    ensures cached { (charge : Charge) (trace : Trace) (events : List Event) (past : Past) (node : ℕ) → 0 < trace.sizes.words → run charge trace events ≡ Some past → IsCached trace.sizes (past.state.share node) }
+    ensures one { InEveryRun IsOneHistory }
+    ensures ordered { InEveryRun (λ _ trace _ past. (node : ℕ) → IsOrdered trace node (past.state.share node) (entries_by node past.served)) }
+    ensures cached { InEveryRun (λ _ trace _ past. (node : ℕ) → IsCached trace.sizes (past.state.share node)) }
 {}
 
 /// Every state that a run reaches is sound. A cache set holds at most one line, nor another one than its node waits for. What was served is legal on one flat memory. The entries of each node are the first operations of its program, in order, and the one that it has begun stands last where it was served. And each line is good: it is in one phase, and its phase with each node's carrier, eviction and duty spells the messages of its lanes, and says which copies, wants and words there are (`IsGood` of `line_invariant`).
 pub fn every_state()
-    ensures holds { (charge : Charge) (trace : Trace) (events : List Event) (past : Past) → 0 < trace.sizes.words → run charge trace events ≡ Some past → IsSound trace past }
+    ensures holds { InEveryRun (λ _ trace _ past. IsSound trace past) }
 {}
 
 /// In every run the message at the front of a lane meets a row at its taker.
 pub fn every_front()
-    ensures meets { (charge : Charge) (trace : Trace) (events : List Event) (past : Past) (src dst : ℕ) (class : Class) (m : Msg) (rest : List Msg) → 0 < trace.sizes.words → run charge trace events ≡ Some past → past.state.lane src dst class ≡ m ∷ rest → meets_row trace.sizes dst (past.state.share dst) src m ≡ true }
+    ensures meets { InEveryRun (λ _ trace _ past. (src dst : ℕ) (class : Class) (m : Msg) (rest : List Msg) → past.state.lane src dst class ≡ m ∷ rest → meets_row trace.sizes dst (past.state.share dst) src m ≡ true) }
 {}
 
 /// An eviction that a node does where the lane has no room for its message, it does in the same way where there is room.

@@ -3,4 +3,4 @@ use Rattle.one_history.proofs.RowMet.{front_meets}
 use Rattle.one_history.proofs.every_front.Goals as goal
 
 pub returns : goal.returns
-returns c = record { meets = front_meets }
+returns c = record { meets = λ charge trace events past positive ran src dst class m rest front. front_meets charge trace events past src dst class m rest positive ran front }

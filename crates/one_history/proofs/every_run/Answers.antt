@@ -7,7 +7,7 @@ pub returns-clause-one : goal.returns-clause-one
 returns-clause-one c = one_history
 
 pub returns-clause-ordered : goal.returns-clause-ordered
-returns-clause-ordered c = ordered_run
+returns-clause-ordered c = λ charge trace events past positive ran node. ordered_run charge trace events past node positive ran
 
 pub returns-clause-cached : goal.returns-clause-cached
-returns-clause-cached c = cached_run
+returns-clause-cached c = λ charge trace events past positive ran node. cached_run charge trace events past node positive ran

@@ -9,4 +9,4 @@ pub returns-clause-empty : goal.returns-clause-empty
 returns-clause-empty c = λ state rest. rest.lanes
 
 pub returns-clause-clear : goal.returns-clause-clear
-returns-clause-clear c = resting_clear
+returns-clause-clear c = λ charge trace events past positive runs all clear. resting_clear charge trace events past all positive runs clear
