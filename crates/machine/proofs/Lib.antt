@@ -14,4 +14,5 @@ pub mod Starts
 pub mod Views
 pub mod Others
 pub mod Drives
+pub mod Reading
 pub mod Public
