@@ -35,15 +35,15 @@ pub record IsChart (chosen : Option ℕ) (trace : Trace) (text : List ℕ) : Typ
   pub drawn : text ≡ picture_text trace.sizes.nodes chosen (strokes_of (machine_after Linked trace trace.steps past))
 
 -- a line is chosen that the machine doesn't have
-abbrev pub HasNoLine : Option ℕ → Trace → ℕ → Type 0
-HasNoLine None trace line = ⊥
-HasNoLine (Some asked) trace line = (line ≡ asked) × (all_lines trace.sizes ≤ line)
+abbrev pub ChoosesNoLine : Option ℕ → Trace → ℕ → Type 0
+ChoosesNoLine None trace line = ⊥
+ChoosesNoLine (Some asked) trace line = (line ≡ asked) × (all_lines trace.sizes ≤ line)
 
 -- why there is no chart, the first cause. Want of memory says nothing of the trace
 abbrev pub IsNoChart : Option ℕ → Trace → ChartError → Type 0
 IsNoChart chosen trace (TooManyNodes count) = (count ≡ trace.sizes.nodes) × (16 < count)
 IsNoChart chosen trace (TooManySteps count) = (trace.sizes.nodes ≤ 16) × (count ≡ length trace.steps) × (400 < count)
-IsNoChart chosen trace (NoLine line) = IsSmall trace × HasNoLine chosen trace line
+IsNoChart chosen trace (NoLine line) = IsSmall trace × ChoosesNoLine chosen trace line
 IsNoChart chosen trace (NotEnabled step cause) = IsDrawable chosen trace × IsRefusedAt (machine_at_start Linked trace) trace.steps step cause
 IsNoChart chosen trace Memory = Unit {0}
 

@@ -26,16 +26,16 @@ Letters = ℕ → ℕ → Class → List Letter
 abbrev pub no_letters : Letters
 no_letters a b class = []
 
-abbrev pub letter : ℕ → ℕ → ℕ → Msg → Letter
-letter number src dst msg = record { sent = number; src = src; dst = dst; msg = msg }
+abbrev pub letter_from : ℕ → ℕ → ℕ → Msg → Letter
+letter_from number src dst msg = record { sent = number; src = src; dst = dst; msg = msg }
 
 -- the letters that the event with this number sends into a lane
-abbrev pub posted : ℕ → ℕ → ℕ → Class → Done → List Letter
-posted number a b class done = if a == done.node then map (letter number a b) (to_lane b class done.out.sends) else []
+abbrev pub letters_sent : ℕ → ℕ → ℕ → Class → Done → List Letter
+letters_sent number a b class done = if a == done.node then map (letter_from number a b) (to_lane b class done.out.sends) else []
 
 -- Lanes are first in, first out: the letter that an event takes leaves the front, and those that it sends come behind
 abbrev pub letters_after : ℕ → Letters → Done → Letters
-letters_after number letters done a b class = drop (done.off a b class) (letters a b class) ++ posted number a b class done
+letters_after number letters done a b class = drop (done.off a b class) (letters a b class) ++ letters_sent number a b class done
 
 abbrev pub letter_taken : Letters → Event → Option Letter
 letter_taken letters (Take src dst class victim) = slice_get (letters src dst class) 0
@@ -64,14 +64,14 @@ line_of_event sizes programs state (Take src dst class victim) = line_of_message
 line_of_event sizes programs state (Reclaim line) = Some line
 
 -- the entry of the operation at this place of a node's program, of those served
-abbrev pub entry_at : ℕ → ℕ → List Entry → Option Entry
-entry_at node place [] = None
-entry_at node place (entry ∷ entries) = if (entry.node == node) && (entry.index == place) then Some entry else entry_at node place entries
+abbrev pub operation_entry : ℕ → ℕ → List Entry → Option Entry
+operation_entry node place [] = None
+operation_entry node place (entry ∷ entries) = if (entry.node == node) && (entry.index == place) then Some entry else operation_entry node place entries
 
 -- what a node completes where its place moves on
 abbrev pub completed_at : ℕ → Past → Past → Option Entry
 completed_at node before after =
-    if nat_lt (before.state.share node).place (after.state.share node).place then entry_at node (before.state.share node).place after.served else None
+    if nat_lt (before.state.share node).place (after.state.share node).place then operation_entry node (before.state.share node).place after.served else None
 
 abbrev pub stroke_of : Sizes → Programs → ℕ → Letters → Past → Event → Past → Stroke
 stroke_of sizes programs number letters before event after =

@@ -17,7 +17,7 @@ use Rattle.time_view.specs.Messages.{message_name, cause_word}
 use Rattle.chart_svg.specs.declared.places.Place.{Place}
 use Rattle.chart_svg.specs.declared.places.Side.{Side}
 use Rattle.chart_svg.specs.declared.places.Side.TheVariants.{Left, Right}
-use Rattle.chart_svg.specs.Places.{is_shown, rows_of, place_of, origin, x_of, y_of, y_on, y_above, y_below, gap, near_head, side_of, x_beside}
+use Rattle.chart_svg.specs.Places.{is_shown, rows_of, stroke_place, origin, x_of, y_of, y_on, y_above, y_below, gap, near_head, side_of, x_beside}
 use Rattle.chart_svg.specs.Pieces.{lifeline, guide, arrow, mark, words, document_opening, document_closing}
 use Rattle.chart_svg.specs.Sheet.{styles, arrow_heads, mark_shapes, line_legend, mark_legend, entry_legend}
 
@@ -62,7 +62,7 @@ lines_at chosen strokes stroke place = guide place ++ letter_line chosen strokes
 
 -- the lines of a stroke
 abbrev pub stroke_lines : Option ℕ → List Stroke → Stroke → List ℕ
-stroke_lines chosen strokes stroke = lines_at chosen strokes stroke (place_of chosen strokes stroke)
+stroke_lines chosen strokes stroke = lines_at chosen strokes stroke (stroke_place chosen strokes stroke)
 
 -- ---- marks
 
@@ -109,24 +109,24 @@ calling_text side place (Some line) = calling_words side place line
 unfoldable pub number_words : ℕ → ℕ → List ℕ
 number_words row number = words (codes "number") 50 (y_on row) (decimal number)
 
-unfoldable pub step_words : ℕ → Event → List ℕ
-step_words row event = words (codes "step") 60 (y_on row) (steps_text (event ∷ []))
+unfoldable pub step_label : ℕ → Event → List ℕ
+step_label row event = words (codes "step") 60 (y_on row) (steps_text (event ∷ []))
 
 unfoldable pub stroke_at : Side → Place → Stroke → List ℕ
 stroke_at side place stroke =
     number_words place.row stroke.number
-    ++ step_words place.row stroke.event
+    ++ step_label place.row stroke.event
     ++ mark (mark_name stroke.event) place
     ++ served_text side place stroke.served
     ++ completed_text side place stroke.completed
     ++ calling_text side place (called_in stroke.event)
 
-abbrev pub words_at : Option ℕ → List Stroke → Stroke → Place → List ℕ
-words_at chosen strokes stroke place = letter_text chosen strokes place stroke.letter ++ stroke_at (side_of stroke) place stroke
+abbrev pub labels_at : Option ℕ → List Stroke → Stroke → Place → List ℕ
+labels_at chosen strokes stroke place = letter_text chosen strokes place stroke.letter ++ stroke_at (side_of stroke) place stroke
 
 -- the mark and the words of a stroke
 abbrev pub stroke_words : Option ℕ → List Stroke → Stroke → List ℕ
-stroke_words chosen strokes stroke = words_at chosen strokes stroke (place_of chosen strokes stroke)
+stroke_words chosen strokes stroke = labels_at chosen strokes stroke (stroke_place chosen strokes stroke)
 
 -- ---- lifelines
 
@@ -137,8 +137,8 @@ node_name node = words (codes "middle") (x_of node) 168 (codes "node " ++ decima
 abbrev pub node_text : ℕ → ℕ → List ℕ
 node_text rows node = node_name node ++ lifeline (x_of node) (y_of rows)
 
-abbrev pub nodes_text : ℕ → ℕ → List ℕ
-nodes_text nodes rows = flat_map (node_text rows) (range_with_len 0 nodes)
+abbrev pub lifelines_text : ℕ → ℕ → List ℕ
+lifelines_text nodes rows = flat_map (node_text rows) (range_with_len 0 nodes)
 
 -- ---- the picture
 
@@ -161,7 +161,7 @@ unfoldable pub picture_text : ℕ → Option ℕ → List Stroke → List ℕ
 picture_text nodes chosen strokes =
     sheet nodes (rows_of chosen strokes)
     ++ heading chosen
-    ++ nodes_text nodes (rows_of chosen strokes)
+    ++ lifelines_text nodes (rows_of chosen strokes)
     ++ flat_map (stroke_lines chosen strokes) (filter (is_shown chosen) strokes)
     ++ flat_map (stroke_words chosen strokes) (filter (is_shown chosen) strokes)
     ++ document_closing

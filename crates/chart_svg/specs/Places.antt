@@ -22,16 +22,16 @@ abbrev pub is_before : Option ℕ → ℕ → Stroke → Bool
 is_before chosen number stroke = is_shown chosen stroke && nat_lt stroke.number number
 
 -- the row of an event's number: how many strokes are shown above it
-abbrev pub row_of : Option ℕ → List Stroke → ℕ → ℕ
-row_of chosen strokes number = count_by (is_before chosen number) strokes
+abbrev pub row_number : Option ℕ → List Stroke → ℕ → ℕ
+row_number chosen strokes number = count_by (is_before chosen number) strokes
 
 -- the place of a stroke is on the lifeline of its node
-abbrev pub place_of : Option ℕ → List Stroke → Stroke → Place
-place_of chosen strokes stroke = record { node = stroke.node; row = row_of chosen strokes stroke.number }
+abbrev pub stroke_place : Option ℕ → List Stroke → Stroke → Place
+stroke_place chosen strokes stroke = record { node = stroke.node; row = row_number chosen strokes stroke.number }
 
 -- and that from which a letter comes on the lifeline of its sender
 abbrev pub origin : Option ℕ → List Stroke → Letter → Place
-origin chosen strokes letter = record { node = letter.src; row = row_of chosen strokes letter.sent }
+origin chosen strokes letter = record { node = letter.src; row = row_number chosen strokes letter.sent }
 
 -- ---- points
 

@@ -1,7 +1,7 @@
 //! The whole picture.
 
 ghost use Rattle.std.specs.Prelude.{◌≡◌, ◌≤◌, ◌++◌, length, OnOk, IfOk};
-ghost use Rattle.chart_svg.specs.Pictures.{sheet, legend, chosen_words, heading, node_name, node_text, nodes_text, picture_text};
+ghost use Rattle.chart_svg.specs.Pictures.{sheet, legend, chosen_words, heading, node_name, node_text, lifelines_text, picture_text};
 
 use crate::arrows::put_all_lines;
 use crate::marks::put_all_words;
@@ -82,7 +82,7 @@ fn put_node(out: &mut Vec<u8>, rows: u32, node: u32) -> Result<(), NoMemory>
 }
 
 fn put_nodes(out: &mut Vec<u8>, nodes: u32, rows: u32) -> Result<(), NoMemory>
-    ensures { OnOk result (out.new.items ≡ out.old.items ++ nodes_text nodes rows) }
+    ensures { OnOk result (out.new.items ≡ out.old.items ++ lifelines_text nodes rows) }
 {
     for node in 0..nodes {
         put_node(out, rows, node)?;

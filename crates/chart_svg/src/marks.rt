@@ -4,7 +4,7 @@ ghost use Rattle.std.specs.Prelude.{◌≡◌, ◌≤◌, ◌++◌, length, filt
 ghost use Rattle.std.specs.List.{flat_map};
 ghost use Rattle.chart_strokes.specs.Strokes.{called_in as calls_in};
 ghost use Rattle.chart_svg.specs.Places.{is_shown as shows};
-ghost use Rattle.chart_svg.specs.Pictures.{mark_name as mark_at, side_name as name_of_side, served_entry, served_text, completed_entry, completed_text, calling_words, calling_text, number_words, step_words, stroke_at, stroke_words};
+ghost use Rattle.chart_svg.specs.Pictures.{mark_name as mark_at, side_name as name_of_side, served_entry, served_text, completed_entry, completed_text, calling_words, calling_text, number_words, step_label, stroke_at, stroke_words};
 
 use crate::arrows::put_letter;
 use crate::pieces::{put_closing, put_mark, put_opening};
@@ -141,9 +141,9 @@ fn put_number(out: &mut Vec<u8>, row: u32, number: u64) -> Result<(), NoMemory>
     put_closing(out)
 }
 
-#[tactic(auto, unfolding(crate::specs::Pictures::step_words))]
+#[tactic(auto, unfolding(crate::specs::Pictures::step_label))]
 fn put_step(out: &mut Vec<u8>, row: u32, event: Event) -> Result<(), NoMemory>
-    ensures { OnOk result (out.new.items ≡ out.old.items ++ step_words row event) }
+    ensures { OnOk result (out.new.items ≡ out.old.items ++ step_label row event) }
 {
     put_opening(out, b"step", 60, on(row))?;
     put_steps(out, &[event])?;

@@ -1,7 +1,7 @@
 //! Where the parts of a picture stand: a column for each node, a row for each stroke.
 
 ghost use Rattle.std.specs.Prelude.{◌≡◌, ◌≤◌, length};
-ghost use Rattle.chart_svg.specs.Places.{is_shown as shows, rows_of, row_of as row_at, place_of as place_at, origin as origin_of, x_of as x_at, y_of as y_at, y_on, y_above, y_below, gap as gap_of, near_head as near, side_of as side_at, x_beside};
+ghost use Rattle.chart_svg.specs.Places.{is_shown as shows, rows_of, row_number, stroke_place, origin as origin_of, x_of as x_at, y_of as y_at, y_on, y_above, y_below, gap as gap_of, near_head as near, side_of as side_at, x_beside};
 
 use chart_strokes::{Letter, Stroke};
 
@@ -46,7 +46,7 @@ pub(crate) fn count_rows(chosen: Option<u32>, strokes: &[Stroke]) -> u32
 /// How many strokes are shown above the event with this number.
 pub(crate) fn row_of(chosen: Option<u32>, strokes: &[Stroke], number: u64) -> u32
     requires { length strokes.now ≤ 65536 }
-    ensures { result ≡ row_at chosen strokes.now number }
+    ensures { result ≡ row_number chosen strokes.now number }
 {
     let mut row = 0;
     for stroke in strokes {
@@ -60,7 +60,7 @@ pub(crate) fn row_of(chosen: Option<u32>, strokes: &[Stroke], number: u64) -> u3
 /// The place of a stroke.
 pub(crate) fn place_of(chosen: Option<u32>, strokes: &[Stroke], stroke: &Stroke) -> Place
     requires { length strokes.now ≤ 65536 }
-    ensures { result ≡ place_at chosen strokes.now stroke.now }
+    ensures { result ≡ stroke_place chosen strokes.now stroke.now }
 {
     Place {
         node: stroke.node,

@@ -15,14 +15,14 @@ use Rattle.chart_top.specs.declared.status.ChartStatus.TheVariants.{Usage, TooMa
 
 -- ---- words
 
-abbrev pub chosen_by : Result ℕ WordCause → Option (Option ℕ)
-chosen_by (Ok line) = if nat_le line 4294967295 then Some (Some line) else None
-chosen_by (Err cause) = None
+abbrev pub chosen_in : Result ℕ WordCause → Option (Option ℕ)
+chosen_in (Ok line) = if nat_le line 4294967295 then Some (Some line) else None
+chosen_in (Err cause) = None
 
 -- Without words all lines are drawn, and with one word the line of this number, which has at most 32 bits. None for other words
 abbrev pub chosen_of : List (List ℕ) → Option (Option ℕ)
 chosen_of [] = Some None
-chosen_of (number ∷ []) = chosen_by (decimal_word number)
+chosen_of (number ∷ []) = chosen_in (decimal_word number)
 chosen_of words = None
 
 -- ---- what is read and written

@@ -6,7 +6,7 @@ ghost use Rattle.byte_io.specs.Faults.{raised};
 ghost use Rattle.byte_io.specs.Moves.{AppendsPart};
 ghost use Rattle.text_lines.specs.Numbers.{decimal_word};
 ghost use Rattle.chart_top.specs.Faults.{chart_fault_text};
-ghost use Rattle.chart_top.specs.Served.{chosen_by, chosen_of, ChartsText, HasNoChart, IsCharted, IsRightChart, status_of_chart};
+ghost use Rattle.chart_top.specs.Served.{chosen_in, chosen_of, ChartsText, HasNoChart, IsCharted, IsRightChart, status_of_chart};
 
 use crate::status::ChartStatus;
 use crate::tell::tell_chart;
@@ -18,7 +18,7 @@ use text_lines::decimal;
 
 /// The choice of the line that a word names, if it names one.
 fn one_line(word: &str) -> Option<Option<u32>>
-    ensures { result ≡ chosen_by (decimal_word word.now) }
+    ensures { result ≡ chosen_in (decimal_word word.now) }
 {
     let line = decimal(word.as_bytes()).ok()?;
     if line > u64::from(u32::MAX) {

@@ -22,7 +22,7 @@ use Rattle.op_model.specs.Run.Runs.{Past, past_after, run_by}
 use Rattle.op_model.specs.Run.Machines.{MachineRun, IsRunning, IsApplied, IsEventOf, effect_on, with_event}
 use Rattle.chart_strokes.specs.declared.strokes.Letter.{Letter}
 use Rattle.chart_strokes.specs.declared.strokes.Stroke.{Stroke}
-use Rattle.chart_strokes.specs.Strokes.{letter, posted, letters_after, Charted, charted_after, charted_then, charted, first_chart, chart_of, strokes_of, stroke_of, letter_taken, entry_at}
+use Rattle.chart_strokes.specs.Strokes.{letter_from, letters_sent, letters_after, Charted, charted_after, charted_then, charted, first_chart, chart_of, strokes_of, stroke_of, letter_taken, operation_entry}
 use Rattle.run_chart.specs.declared.before.Before.{Before}
 use Rattle.run_chart.specs.Charts.{ChartView, in_lane, IsBefore, IsChartOf}
 use Rattle.run_chart.specs.Lettered.{new_letters, AreOfClass, ArePosted}
@@ -95,7 +95,7 @@ pub record IsFaithful (chart : Charted) : Type 0 where
   pub letters : (a b : ℕ) (k : Class) → map msg_of (chart.letters a b k) ≡ chart.past.state.lane a b k
   pub of_class : (a b : ℕ) (k : Class) → All (λ msg. same_class k (msg_class msg) ≡ true) (chart.past.state.lane a b k)
 
-letter-msgs : (number src dst : ℕ) (messages : List Msg) → map msg_of (map (letter number src dst) messages) ≡ messages
+letter-msgs : (number src dst : ℕ) (messages : List Msg) → map msg_of (map (letter_from number src dst) messages) ≡ messages
 letter-msgs number src dst [] = refl
 letter-msgs number src dst (m ∷ messages) = ap (λ ms. m ∷ ms) (letter-msgs number src dst messages)
 
@@ -117,11 +117,11 @@ faithful-first sizes = record {
 module _ (sizes : Sizes) (programs : Programs) (chart : Charted) (event : Event) (done : Done) (faithful : IsFaithful chart) where
   faithful-letters : (a b : ℕ) (k : Class) → map msg_of (letters_after (suc (length chart.strokes)) chart.letters done a b k) ≡ (past_after sizes chart.past done).state.lane a b k
   faithful-letters a b k =
-      map-append msg_of (drop (done.off a b k) (chart.letters a b k)) (posted (suc (length chart.strokes)) a b k done)
-      ∙ ap (λ ms. ms ++ map msg_of (posted (suc (length chart.strokes)) a b k done)) (sym (drop-map msg_of (done.off a b k) (chart.letters a b k)) ∙ ap (λ ms. drop (done.off a b k) ms) (faithful.letters a b k))
+      map-append msg_of (drop (done.off a b k) (chart.letters a b k)) (letters_sent (suc (length chart.strokes)) a b k done)
+      ∙ ap (λ ms. ms ++ map msg_of (letters_sent (suc (length chart.strokes)) a b k done)) (sym (drop-map msg_of (done.off a b k) (chart.letters a b k)) ∙ ap (λ ms. drop (done.off a b k) ms) (faithful.letters a b k))
       ∙ ap (λ ms. drop (done.off a b k) (chart.past.state.lane a b k) ++ ms) (go (a == done.node))
     where
-      go : (t : Bool) → map msg_of (cond t (map (letter (suc (length chart.strokes)) a b) (to_lane b k done.out.sends)) []) ≡ cond t (to_lane b k done.out.sends) []
+      go : (t : Bool) → map msg_of (cond t (map (letter_from (suc (length chart.strokes)) a b) (to_lane b k done.out.sends)) []) ≡ cond t (to_lane b k done.out.sends) []
       go true = letter-msgs (suc (length chart.strokes)) a b (to_lane b k done.out.sends)
       go false = refl
 
@@ -161,15 +161,15 @@ module _ (sizes : Sizes) (chart : Charted) (done : Done) (faithful : IsFaithful 
       ∙ ap (λ (ms : List Msg). length ms) (sym (drop-map msg_of (done.off a b k) (chart.letters a b k)) ∙ ap (λ (ms : List Msg). drop (done.off a b k) ms) (faithful.letters a b k)) in
       let news : drop (length (in_lane taken a b k)) (lanes a b k) ≡ sent =
       ap (λ (n : ℕ). drop n (left ++ cond (a == done.node) sent [])) long ∙ drop-append_seam left (cond (a == done.node) sent []) ∙ ap (λ (t : Bool). cond t sent []) self in
-      ap (λ (ms : List Msg). in_lane taken a b k ++ map (letter number a b) ms) news
-      ∙ ap (λ (ls : List Letter). ls ++ map (letter number a b) sent) is
-      ∙ ap (λ (t : Bool). drop (done.off a b k) (chart.letters a b k) ++ cond t (map (letter number a b) sent) []) (sym self)
+      ap (λ (ms : List Msg). in_lane taken a b k ++ map (letter_from number a b) ms) news
+      ∙ ap (λ (ls : List Letter). ls ++ map (letter_from number a b) sent) is
+      ∙ ap (λ (t : Bool). drop (done.off a b k) (chart.letters a b k) ++ cond t (map (letter_from number a b) sent) []) (sym self)
 
   -- nothing is new in another lane
   new-other : (a b : ℕ) (k : Class) (taken : List Letter) → a ≢ done.node → in_lane taken a b k ≡ drop (done.off a b k) (chart.letters a b k) → in_lane taken a b k ≡ letters_after number chart.letters done a b k
   new-other a b k taken other is =
       let apart : (a == done.node) ≡ false = grind (arith, nat_tests) in
-      is ∙ sym (append-nil (drop (done.off a b k) (chart.letters a b k))) ∙ ap (λ (t : Bool). drop (done.off a b k) (chart.letters a b k) ++ cond t (map (letter number a b) (to_lane b k done.out.sends)) []) (sym apart)
+      is ∙ sym (append-nil (drop (done.off a b k) (chart.letters a b k))) ∙ ap (λ (t : Bool). drop (done.off a b k) (chart.letters a b k) ++ cond t (map (letter_from number a b) (to_lane b k done.out.sends)) []) (sym apart)
 
   pub new-letters : (n : ℕ) (taken new : List Letter) → ((a b : ℕ) (k : Class) → a < n → b < n → in_lane taken a b k ≡ drop (done.off a b k) (chart.letters a b k)) → ArePosted number done.node n lanes taken new →
       (a b : ℕ) (k : Class) → a < n → b < n → in_lane new a b k ≡ letters_after number chart.letters done a b k
@@ -240,18 +240,18 @@ pub record IsNoted (now : MachineRun) (event : Event) (before : Before) (old : C
   pub left : (a b : ℕ) (k : Class) → in_lane taken a b k ≡ drop (off_of event a b k) (in_lane old.letters a b k)
   pub posts : AreOfClass before.node now.sizes.nodes now.past.state.lane → ArePosted number before.node now.sizes.nodes now.past.state.lane taken new
   pub served : entry ≡ slice_get now.past.served before.served
-  pub completed : done ≡ cond (nat_lt before.place (now.past.state.share before.node).place) (entry_at before.node before.place now.past.served) None
+  pub completed : done ≡ cond (nat_lt before.place (now.past.state.share before.node).place) (operation_entry before.node before.place now.past.served) None
 
 module _ (was : MachineRun) (event : Event) (before : Before) (old : ChartView) (taken new : List Letter) (number : ℕ) (sent : Option Letter) (entry completed : Option Entry) (done : Done) (does : effect_on was event ≡ Ok done) (running : IsRunning was) (known : IsBefore was event before) (of : IsEventOf was.sizes event) (was_it : IsChartOf was old)
     (is : IsNoted (with_event was event done) event before old taken new number sent entry completed) where
   abbrev last : Past
   last = past_after was.sizes was.past done
 
-  same-completed : completed ≡ cond (nat_lt (was.past.state.share (event_node was.sizes event)).place (last.state.share (event_node was.sizes event)).place) (entry_at (event_node was.sizes event) (was.past.state.share (event_node was.sizes event)).place last.served) None
+  same-completed : completed ≡ cond (nat_lt (was.past.state.share (event_node was.sizes event)).place (last.state.share (event_node was.sizes event)).place) (operation_entry (event_node was.sizes event) (was.past.state.share (event_node was.sizes event)).place last.served) None
   same-completed =
       is.completed
-      ∙ ap (λ (n : ℕ). cond (nat_lt before.place (last.state.share n).place) (entry_at n before.place last.served) None) known.node
-      ∙ ap (λ (p : ℕ). cond (nat_lt p (last.state.share (event_node was.sizes event)).place) (entry_at (event_node was.sizes event) p last.served) None) known.place
+      ∙ ap (λ (n : ℕ). cond (nat_lt before.place (last.state.share n).place) (operation_entry n before.place last.served) None) known.node
+      ∙ ap (λ (p : ℕ). cond (nat_lt p (last.state.share (event_node was.sizes event)).place) (operation_entry (event_node was.sizes event) p last.served) None) known.place
 
   same-served : entry ≡ slice_get last.served (length was.past.served)
   same-served = is.served ∙ ap (λ (n : ℕ). slice_get last.served n) known.served

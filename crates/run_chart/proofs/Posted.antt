@@ -13,7 +13,7 @@ use Rattle.op_model.specs.Messages.{same_class, msg_class}
 use Rattle.op_model.specs.Shares.{Lanes}
 use Rattle.op_model.proofs.Public.{same_class-is, take-next}
 use Rattle.chart_strokes.specs.declared.strokes.Letter.{Letter}
-use Rattle.chart_strokes.specs.Strokes.{letter}
+use Rattle.chart_strokes.specs.Strokes.{letter_from}
 use Rattle.run_chart.specs.Charts.{is_in_lane, in_lane}
 use Rattle.run_chart.specs.Lettered.{new_letters, AreOfClass, ArePosted}
 use Rattle.run_chart.proofs.Filtered.{filter-all}
@@ -22,29 +22,29 @@ use Rattle.run_chart.proofs.InLanes.{is_lane, lane-same, same-lane, lane-named, 
 -- ---- one lane
 
 -- a letter of a message of a lane is in that lane alone
-letter-lane : (number src dst : ℕ) (class : Class) (a b : ℕ) (k : Class) (msg : Msg) → same_class class (msg_class msg) ≡ true → is_in_lane a b k (letter number src dst msg) ≡ is_lane src dst class a b k
-letter-lane number src dst class a b k msg of = go (is_in_lane a b k (letter number src dst msg)) (is_lane src dst class a b k) refl refl
+letter-lane : (number src dst : ℕ) (class : Class) (a b : ℕ) (k : Class) (msg : Msg) → same_class class (msg_class msg) ≡ true → is_in_lane a b k (letter_from number src dst msg) ≡ is_lane src dst class a b k
+letter-lane number src dst class a b k msg of = go (is_in_lane a b k (letter_from number src dst msg)) (is_lane src dst class a b k) refl refl
   where
     its : class ≡ msg_class msg
     its = same_class-is class (msg_class msg) of
 
-    go : (x y : Bool) → is_in_lane a b k (letter number src dst msg) ≡ x → is_lane src dst class a b k ≡ y → x ≡ y
+    go : (x y : Bool) → is_in_lane a b k (letter_from number src dst msg) ≡ x → is_lane src dst class a b k ≡ y → x ≡ y
     go true true in_it one = refl
     go false false in_it one = refl
     go true false in_it one =
-        let named = lane-named a b k (letter number src dst msg) in_it in
+        let named = lane-named a b k (letter_from number src dst msg) in_it in
         sym (lane-same src dst class a b k (sym named.0) (sym named.1) (named.2 ∙ sym its)) ∙ one
     go false true in_it one =
         let same = same-lane src dst class a b k one in
-        sym in_it ∙ named-lane a b k (letter number src dst msg) (sym same.0) (sym same.1) (same.2 ∙ its)
+        sym in_it ∙ named-lane a b k (letter_from number src dst msg) (sym same.0) (sym same.1) (same.2 ∙ its)
 
 -- letters of messages of a lane are in that lane alone
 letters-lane : (number src dst : ℕ) (class : Class) (messages : List Msg) (a b : ℕ) (k : Class) → All (λ msg. same_class class (msg_class msg) ≡ true) messages →
-    in_lane (map (letter number src dst) messages) a b k ≡ cond (is_lane src dst class a b k) (map (letter number src dst) messages) []
+    in_lane (map (letter_from number src dst) messages) a b k ≡ cond (is_lane src dst class a b k) (map (letter_from number src dst) messages) []
 letters-lane number src dst class messages a b k all =
-    filter-all (is_in_lane a b k) (is_lane src dst class a b k) (map (letter number src dst) messages)
-    (All-map (λ l. is_in_lane a b k l ≡ is_lane src dst class a b k) (letter number src dst) messages
-    (All-weaker (λ msg. same_class class (msg_class msg) ≡ true) (λ msg. is_in_lane a b k (letter number src dst msg) ≡ is_lane src dst class a b k) (letter-lane number src dst class a b k) messages all))
+    filter-all (is_in_lane a b k) (is_lane src dst class a b k) (map (letter_from number src dst) messages)
+    (All-map (λ l. is_in_lane a b k l ≡ is_lane src dst class a b k) (letter_from number src dst) messages
+    (All-weaker (λ msg. same_class class (msg_class msg) ≡ true) (λ msg. is_in_lane a b k (letter_from number src dst msg) ≡ is_lane src dst class a b k) (letter-lane number src dst class a b k) messages all))
 
 module _ (number src dst : ℕ) (class : Class) (lane : List Msg) (old new : List Letter) where
   abbrev behind : List Letter
@@ -117,11 +117,11 @@ module _ (number src n : ℕ) (lane : Lanes) (old mid one two : List Letter) (be
       let was : in_lane mid src n Request ≡ in_lane old src n Request = before.beyond n Request (omega arith) in
       posted-other number src n Reply (lane src n Reply) one two replies second src n Request (not-lane-class src n Reply src n Request refl)
       ∙ posted-own number src n Request (lane src n Request) mid one requests first
-      ∙ ap (λ ls. ls ++ map (letter number src n) (drop (length ls) (lane src n Request))) was
+      ∙ ap (λ ls. ls ++ map (letter_from number src n) (drop (length ls) (lane src n Request))) was
   here Reply =
       let was : in_lane one src n Reply ≡ in_lane old src n Reply = posted-other number src n Request (lane src n Request) mid one requests first src n Reply (not-lane-class src n Request src n Reply refl) ∙ before.beyond n Reply (omega arith) in
       posted-own number src n Reply (lane src n Reply) one two replies second
-      ∙ ap (λ ls. ls ++ map (letter number src n) (drop (length ls) (lane src n Reply))) was
+      ∙ ap (λ ls. ls ++ map (letter_from number src n) (drop (length ls) (lane src n Reply))) was
 
   own-more : (b : ℕ) (k : Class) → b < n + 1 → in_lane two src b k ≡ in_lane old src b k ++ new_letters number src b k old (lane src b k)
   own-more b k lt = go (b == n) refl
@@ -154,24 +154,24 @@ drop-take_none (suc k) [] = refl
 drop-take_none (suc k) (x ∷ xs) = drop-take_none k xs
 
 -- at first nothing is put behind the letters
-pub sent-none : (number src dst known : ℕ) (lane : List Msg) (old : List Letter) → old ≡ old ++ map (letter number src dst) (drop known (take known lane))
-sent-none number src dst known lane old = sym (ap (λ ms. old ++ map (letter number src dst) ms) (drop-take_none known lane) ∙ append-nil old)
+pub sent-none : (number src dst known : ℕ) (lane : List Msg) (old : List Letter) → old ≡ old ++ map (letter_from number src dst) (drop known (take known lane))
+sent-none number src dst known lane old = sym (ap (λ ms. old ++ map (letter_from number src dst) ms) (drop-take_none known lane) ∙ append-nil old)
 
 -- then the message at each place
-pub sent-more : (number src dst known i : ℕ) (lane : List Msg) (msg : Msg) (old now next : List Letter) → known ≤ i → slice_get lane i ≡ Some msg → now ≡ old ++ map (letter number src dst) (drop known (take i lane)) → next ≡ now ++ letter number src dst msg ∷ [] →
-    next ≡ old ++ map (letter number src dst) (drop known (take (i + 1) lane))
+pub sent-more : (number src dst known i : ℕ) (lane : List Msg) (msg : Msg) (old now next : List Letter) → known ≤ i → slice_get lane i ≡ Some msg → now ≡ old ++ map (letter_from number src dst) (drop known (take i lane)) → next ≡ now ++ letter_from number src dst msg ∷ [] →
+    next ≡ old ++ map (letter_from number src dst) (drop known (take (i + 1) lane))
 sent-more number src dst known i lane msg old now next le at so_far is =
     let within : i < length lane = slice_get_within lane i msg at in
     let long : length (take i lane) ≡ i = length-take-le i lane (omega arith) in
     let cut : drop known (take (i + 1) lane) ≡ drop known (take i lane) ++ msg ∷ [] =
     ap (λ (ms : List Msg). drop known ms) (take-next lane i msg at) ∙ drop-append-le known (take i lane) (msg ∷ []) (omega arith) in
-    is ∙ ap (λ (ls : List Letter). ls ++ letter number src dst msg ∷ []) so_far
-    ∙ append_assoc old (map (letter number src dst) (drop known (take i lane))) (letter number src dst msg ∷ [])
-    ∙ ap (λ (ls : List Letter). old ++ ls) (sym (map-append (letter number src dst) (drop known (take i lane)) (msg ∷ [])))
-    ∙ ap (λ (ms : List Msg). old ++ map (letter number src dst) ms) (sym cut)
+    is ∙ ap (λ (ls : List Letter). ls ++ letter_from number src dst msg ∷ []) so_far
+    ∙ append_assoc old (map (letter_from number src dst) (drop known (take i lane))) (letter_from number src dst msg ∷ [])
+    ∙ ap (λ (ls : List Letter). old ++ ls) (sym (map-append (letter_from number src dst) (drop known (take i lane)) (msg ∷ [])))
+    ∙ ap (λ (ms : List Msg). old ++ map (letter_from number src dst) ms) (sym cut)
 
 -- and at last those of the whole lane
-pub sent-all : (number src dst : ℕ) (class : Class) (known i : ℕ) (lane : List Msg) (letters old now : List Letter) → known ≡ length (in_lane letters src dst class) → letters ≡ old → length lane ≤ i → now ≡ old ++ map (letter number src dst) (drop known (take i lane)) → now ≡ old ++ new_letters number src dst class old lane
+pub sent-all : (number src dst : ℕ) (class : Class) (known i : ℕ) (lane : List Msg) (letters old now : List Letter) → known ≡ length (in_lane letters src dst class) → letters ≡ old → length lane ≤ i → now ≡ old ++ map (letter_from number src dst) (drop known (take i lane)) → now ≡ old ++ new_letters number src dst class old lane
 sent-all number src dst class known i lane letters old now counted same le is =
-    is ∙ ap (λ ms. old ++ map (letter number src dst) (drop known ms)) (take_all i lane le)
-    ∙ ap (λ n. old ++ map (letter number src dst) (drop n lane)) (counted ∙ ap (λ ls. length (in_lane ls src dst class)) same)
+    is ∙ ap (λ ms. old ++ map (letter_from number src dst) (drop known ms)) (take_all i lane le)
+    ∙ ap (λ n. old ++ map (letter_from number src dst) (drop n lane)) (counted ∙ ap (λ ls. length (in_lane ls src dst class)) same)

@@ -6,12 +6,12 @@ use Rattle.op_model.specs.declared.messages.Msg.{Msg}
 use Rattle.op_model.specs.Messages.{same_class, msg_class}
 use Rattle.op_model.specs.Shares.{Lanes}
 use Rattle.chart_strokes.specs.declared.strokes.Letter.{Letter}
-use Rattle.chart_strokes.specs.Strokes.{letter}
+use Rattle.chart_strokes.specs.Strokes.{letter_from}
 use Rattle.run_chart.specs.Charts.{in_lane}
 
 -- the messages of a lane behind those that are letters already, as letters with this number
 abbrev pub new_letters : ℕ → ℕ → ℕ → Class → List Letter → List Msg → List Letter
-new_letters number src dst class letters messages = map (letter number src dst) (drop (length (in_lane letters src dst class)) messages)
+new_letters number src dst class letters messages = map (letter_from number src dst) (drop (length (in_lane letters src dst class)) messages)
 
 -- each message in a node's lanes to the first n nodes is of its lane's class
 abbrev pub AreOfClass : ℕ → ℕ → Lanes → Type 0

@@ -2,7 +2,7 @@
 
 ghost use Rattle.std.specs.Prelude.{◌≡◌, ◌<◌, [], if◌then◌else◌, nat_lt, None, OnOk, length, ◌+◌};
 ghost use Rattle.op_model.specs.Run.Machines.{MachineRun, IsRunning, IsApplied, IsEventOf};
-ghost use Rattle.chart_strokes.specs.Strokes.{entry_at as first_at, strokes_of};
+ghost use Rattle.chart_strokes.specs.Strokes.{operation_entry, strokes_of};
 ghost use Rattle.run_chart.specs.Charts.{IsBefore, IsChartOf};
 
 use crate::before::Before;
@@ -33,7 +33,7 @@ impl Model for Chart {
 /// The operation that a node has completed since it was at a place, if it has moved on from there.
 fn completed<M: Viewed>(m: &M, node: u32, place: u32) -> Option<Entry>
     requires { node < (M.meaning m.now).sizes.nodes }
-    ensures { result ≡ (if nat_lt place ((M.meaning m.now).past.state.share node).place then first_at node place (M.meaning m.now).past.served else None) }
+    ensures { result ≡ (if nat_lt place ((M.meaning m.now).past.state.share node).place then operation_entry node place (M.meaning m.now).past.served else None) }
 {
     if place < m.place(node) {
         entry_at(m.served(), node, place)

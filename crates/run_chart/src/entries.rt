@@ -1,7 +1,7 @@
 //! Entries of operations that were served.
 
 ghost use Rattle.std.specs.Prelude.{◌≡◌, slice_get};
-ghost use Rattle.chart_strokes.specs.Strokes.{entry_at as first_at};
+ghost use Rattle.chart_strokes.specs.Strokes.{operation_entry};
 
 use op_model::Entry;
 
@@ -15,7 +15,7 @@ pub(crate) fn entry_behind(entries: &[Entry], count: usize) -> Option<Entry>
 
 /// The first entry of the operation at this place of a node's program.
 pub(crate) fn entry_at(entries: &[Entry], node: u32, place: u32) -> Option<Entry>
-    ensures { result ≡ first_at node place entries.now }
+    ensures { result ≡ operation_entry node place entries.now }
 {
     for entry in entries {
         if entry.node == node && entry.index == place {
