@@ -1,144 +1,28 @@
 -- The chart of a run with one event more.
-use Rattle.std.proofs.Common.{◌≡◌, ◌≢◌, ℕ, suc, ◌+◌, ◌<◌, Bool, true, false, cond, ◌==◌, nat_lt, List, [], ◌∷◌, ◌++◌, Option, Some, None, Result, Ok, Err, length, drop, map, refl, sym, ap, subst, ◌∙◌, arith}
-use Rattle.std.specs.Prelude.{slice_get, ◌&&◌}
+use Rattle.std.proofs.Common.{◌≡◌, ◌≢◌, ℕ, suc, ◌+◌, ◌<◌, Bool, true, false, cond, ◌==◌, nat_lt, List, [], ◌∷◌, ◌++◌, Option, None, Ok, length, drop, map, refl, sym, ap, subst, ◌∙◌, arith}
+use Rattle.std.specs.Prelude.{slice_get}
 use Rattle.std.specs.List.{All}
-use Rattle.std.proofs.lemmas.List.{append-nil, map-append, length-map, drop-map}
-use Rattle.std.proofs.lemmas.List.Elements.{All-nil, All-cons, All-append, All-drop}
-use Rattle.std.proofs.lemmas.Option.{same_Some}
+use Rattle.std.proofs.lemmas.List.{append-nil, length-map, drop-map}
 use Rattle.std.proofs.lemmas.Bool.Decides.{nat_tests}
 use Rattle.std.proofs.Math.Seq.{drop-append_seam}
-use Rattle.line_map.specs.Sizes.{Sizes, home_of}
+use Rattle.line_map.specs.Sizes.{Sizes}
 use Rattle.op_model.specs.declared.events.Class.{Class}
 use Rattle.op_model.specs.declared.events.Event.{Event}
 use Rattle.op_model.specs.declared.events.Event.TheVariants.{Hit, Issue, Evict, Take, Reclaim}
-use Rattle.op_model.specs.declared.events.Cause.{Cause}
 use Rattle.op_model.specs.declared.messages.Msg.{Msg}
 use Rattle.op_model.specs.declared.operations.Entry.{Entry}
 use Rattle.op_model.specs.Messages.{same_class, msg_class}
-use Rattle.op_model.specs.Shares.{Charge, State, Lanes}
-use Rattle.op_model.specs.Events.Node.{NodeOutcome, TakeFrom, local}
-use Rattle.op_model.specs.Events.Step.{Programs, Done, Off, act, effect, take_front, none_off, one_off, to_lane, and_then, event_node, off_of}
-use Rattle.op_model.specs.Run.Runs.{Past, past_after, run_by}
+use Rattle.op_model.specs.Shares.{Lanes}
+use Rattle.op_model.specs.Events.Step.{Done, Off, to_lane, event_node, off_of}
+use Rattle.op_model.specs.Run.Runs.{Past, past_after}
 use Rattle.op_model.specs.Run.Machines.{MachineRun, IsRunning, IsApplied, IsEventOf, effect_on, with_event}
 use Rattle.chart_strokes.specs.declared.strokes.Letter.{Letter}
 use Rattle.chart_strokes.specs.declared.strokes.Stroke.{Stroke}
-use Rattle.chart_strokes.specs.Strokes.{letter_from, letters_sent, letters_after, Charted, charted_after, charted_then, charted, first_chart, chart_of, strokes_of, stroke_of, letter_taken, operation_entry}
+use Rattle.chart_strokes.specs.Strokes.{letter_from, letters_after, Charted, charted_after, charted, first_chart, chart_of, strokes_of, stroke_of, letter_taken, operation_entry}
 use Rattle.run_chart.specs.declared.before.Before.{Before}
 use Rattle.run_chart.specs.Charts.{ChartView, in_lane, IsBefore, IsChartOf}
 use Rattle.run_chart.specs.Lettered.{new_letters, AreOfClass, ArePosted}
-
--- ---- what an event does
-
-act-is : (node : ℕ) (off : Off) (r : Result NodeOutcome Cause) (done : Done) → act node off r ≡ Ok done → (done.node ≡ node) × (done.off ≡ off)
-act-is node off (Ok out) done is =
-    let same : record { node = node; out = out; off = off } ≡ done = cc in
-    (sym (ap (λ (d : Done). d.node) same), sym (ap (λ (d : Done). d.off) same))
-act-is node off (Err cause) done is = cc
-
--- it is done at its node, and takes its message
-pub effect-is : (charge : Charge) (sizes : Sizes) (programs : Programs) (state : State) (event : Event) (done : Done) → effect charge sizes programs state event ≡ Ok done → (done.node ≡ event_node sizes event) × (done.off ≡ off_of event)
-effect-is charge sizes programs state (Hit node) done is = act-is node none_off _ done is
-effect-is charge sizes programs state (Issue node) done is = act-is node none_off _ done is
-effect-is charge sizes programs state (Evict node line kind) done is = act-is node none_off _ done is
-effect-is charge sizes programs state (Take src dst class victim) done is = go (state.lane src dst class) is
-  where
-    go : (messages : List Msg) → take_front charge sizes programs state src dst class victim messages ≡ Ok done → (done.node ≡ dst) × (done.off ≡ one_off src dst class)
-    go [] is = cc
-    go (m ∷ rest) is = act-is dst (one_off src dst class) (local charge sizes dst (programs dst) (state.share dst) (TakeFrom src m victim)) done is
-effect-is charge sizes programs state (Reclaim line) done is = act-is (home_of sizes line) none_off _ done is
-
--- ---- charts, event by event
-
-module _ (charge : Charge) (sizes : Sizes) (programs : Programs) where
-  -- a chart follows its run
-  pub charted-past : (chart : Charted) (last : Past) (events : List Event) → run_by charge sizes programs chart.past events ≡ Some last → (charted charge sizes programs chart events).past ≡ last
-  charted-past chart last [] is = same_Some chart.past last is
-  charted-past chart last (e ∷ events) is = go (effect charge sizes programs chart.past.state e) is (λ d. charted-past (charted_after sizes programs chart e d) last events)
-    where
-      go : (r : Result Done Cause) → and_then r (λ d. run_by charge sizes programs (past_after sizes chart.past d) events) ≡ Some last →
-          ((d : Done) → run_by charge sizes programs (past_after sizes chart.past d) events ≡ Some last → (charted charge sizes programs (charted_after sizes programs chart e d) events).past ≡ last) →
-          (charted_then chart (λ d. charted charge sizes programs (charted_after sizes programs chart e d) events) r).past ≡ last
-      go (Ok d) runs rest = rest d runs
-      go (Err cause) runs rest = cc
-
-  -- one event more
-  pub charted-push : (chart : Charted) (mid : Past) (events : List Event) (event : Event) (done : Done) → run_by charge sizes programs chart.past events ≡ Some mid → effect charge sizes programs mid.state event ≡ Ok done →
-      charted charge sizes programs chart (events ++ event ∷ []) ≡ charted_after sizes programs (charted charge sizes programs chart events) event done
-  charted-push chart mid [] event done is does =
-      let here : effect charge sizes programs chart.past.state event ≡ Ok done = subst (λ (p : Past). effect charge sizes programs p.state event ≡ Ok done) (sym (same_Some chart.past mid is)) does in
-      ap (λ r. charted_then chart (λ d. charted_after sizes programs chart event d) r) here
-  charted-push chart mid (e ∷ events) event done is does = go (effect charge sizes programs chart.past.state e) is (λ d. charted-push (charted_after sizes programs chart e d) mid events event done)
-    where
-      go : (r : Result Done Cause) → and_then r (λ d. run_by charge sizes programs (past_after sizes chart.past d) events) ≡ Some mid →
-          ((d : Done) → run_by charge sizes programs (past_after sizes chart.past d) events ≡ Some mid → effect charge sizes programs mid.state event ≡ Ok done →
-          charted charge sizes programs (charted_after sizes programs chart e d) (events ++ event ∷ []) ≡ charted_after sizes programs (charted charge sizes programs (charted_after sizes programs chart e d) events) event done) →
-          charted_then chart (λ d. charted charge sizes programs (charted_after sizes programs chart e d) (events ++ event ∷ [])) r ≡ charted_after sizes programs (charted_then chart (λ d. charted charge sizes programs (charted_after sizes programs chart e d) events) r) event done
-      go (Ok d) runs rest = rest d runs does
-      go (Err cause) runs rest = cc
-
-  -- what each event keeps is so of the whole chart
-  pub charted-keeps : (P : Charted → Type 0) → ((chart : Charted) (event : Event) (done : Done) → P chart → P (charted_after sizes programs chart event done)) → (chart : Charted) (events : List Event) → P chart → P (charted charge sizes programs chart events)
-  charted-keeps P step chart [] first = first
-  charted-keeps P step chart (e ∷ events) first = go (effect charge sizes programs chart.past.state e) (λ d. charted-keeps P step (charted_after sizes programs chart e d) events (step chart e d first))
-    where
-      go : (r : Result Done Cause) → ((d : Done) → P (charted charge sizes programs (charted_after sizes programs chart e d) events)) → P (charted_then chart (λ d. charted charge sizes programs (charted_after sizes programs chart e d) events) r)
-      go (Ok d) rest = rest d
-      go (Err cause) rest = first
-
--- ---- the letters are the messages
-
-abbrev pub msg_of : Letter → Msg
-msg_of l = l.msg
-
--- each lane has its letters' messages, and they are of its class
-pub record IsFaithful (chart : Charted) : Type 0 where
-  pub letters : (a b : ℕ) (k : Class) → map msg_of (chart.letters a b k) ≡ chart.past.state.lane a b k
-  pub of_class : (a b : ℕ) (k : Class) → All (λ msg. same_class k (msg_class msg) ≡ true) (chart.past.state.lane a b k)
-
-letter-msgs : (number src dst : ℕ) (messages : List Msg) → map msg_of (map (letter_from number src dst) messages) ≡ messages
-letter-msgs number src dst [] = refl
-letter-msgs number src dst (m ∷ messages) = ap (λ ms. m ∷ ms) (letter-msgs number src dst messages)
-
-to_lane-class : (node : ℕ) (k : Class) (sends : List (ℕ × Msg)) → All (λ msg. same_class k (msg_class msg) ≡ true) (to_lane node k sends)
-to_lane-class node k [] = All-nil (λ msg. same_class k (msg_class msg) ≡ true)
-to_lane-class node k (send ∷ sends) = go (send.0 == node) (same_class k (msg_class send.1)) refl (to_lane-class node k sends)
-  where
-    go : (x y : Bool) → same_class k (msg_class send.1) ≡ y → All (λ msg. same_class k (msg_class msg) ≡ true) (to_lane node k sends) → All (λ msg. same_class k (msg_class msg) ≡ true) (cond (x && y) (send.1 ∷ to_lane node k sends) (to_lane node k sends))
-    go true true e rest = All-cons (λ msg. same_class k (msg_class msg) ≡ true) send.1 (to_lane node k sends) e rest
-    go true false e rest = rest
-    go false y e rest = rest
-
-faithful-first : (sizes : Sizes) → IsFaithful (first_chart sizes)
-faithful-first sizes = record {
-  letters = λ a b k. refl;
-  of_class = λ a b k. All-nil (λ msg. same_class k (msg_class msg) ≡ true);
-}
-
-module _ (sizes : Sizes) (programs : Programs) (chart : Charted) (event : Event) (done : Done) (faithful : IsFaithful chart) where
-  faithful-letters : (a b : ℕ) (k : Class) → map msg_of (letters_after (suc (length chart.strokes)) chart.letters done a b k) ≡ (past_after sizes chart.past done).state.lane a b k
-  faithful-letters a b k =
-      map-append msg_of (drop (done.off a b k) (chart.letters a b k)) (letters_sent (suc (length chart.strokes)) a b k done)
-      ∙ ap (λ ms. ms ++ map msg_of (letters_sent (suc (length chart.strokes)) a b k done)) (sym (drop-map msg_of (done.off a b k) (chart.letters a b k)) ∙ ap (λ ms. drop (done.off a b k) ms) (faithful.letters a b k))
-      ∙ ap (λ ms. drop (done.off a b k) (chart.past.state.lane a b k) ++ ms) (go (a == done.node))
-    where
-      go : (t : Bool) → map msg_of (cond t (map (letter_from (suc (length chart.strokes)) a b) (to_lane b k done.out.sends)) []) ≡ cond t (to_lane b k done.out.sends) []
-      go true = letter-msgs (suc (length chart.strokes)) a b (to_lane b k done.out.sends)
-      go false = refl
-
-  faithful-class : (a b : ℕ) (k : Class) → All (λ msg. same_class k (msg_class msg) ≡ true) ((past_after sizes chart.past done).state.lane a b k)
-  faithful-class a b k =
-      All-append (λ msg. same_class k (msg_class msg) ≡ true) (drop (done.off a b k) (chart.past.state.lane a b k)) (cond (a == done.node) (to_lane b k done.out.sends) [])
-      (All-drop (λ msg. same_class k (msg_class msg) ≡ true) (done.off a b k) (chart.past.state.lane a b k) (faithful.of_class a b k)) (go (a == done.node))
-    where
-      go : (t : Bool) → All (λ msg. same_class k (msg_class msg) ≡ true) (cond t (to_lane b k done.out.sends) [])
-      go true = to_lane-class b k done.out.sends
-      go false = All-nil (λ msg. same_class k (msg_class msg) ≡ true)
-
-  faithful-after : IsFaithful (charted_after sizes programs chart event done)
-  faithful-after = record { letters = faithful-letters; of_class = faithful-class }
-
-faithful : (m : MachineRun) → IsFaithful (chart_of m)
-faithful m = charted-keeps m.charge m.sizes m.programs IsFaithful (faithful-after m.sizes m.programs) (first_chart m.sizes) m.events (faithful-first m.sizes)
+use Rattle.chart_strokes.proofs.Public.{IsFaithful, charted-past, charted-push, effect-is, faithful, faithful-after, msg_of}
 
 -- ---- the letters that are noted are those of the run
 

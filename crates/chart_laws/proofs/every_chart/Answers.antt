@@ -1,0 +1,5 @@
+use Rattle.chart_laws.proofs.Following.{told}
+use Rattle.chart_laws.proofs.every_chart.Goals as goal
+
+pub returns : goal.returns
+returns c = record { told = told }

@@ -1,0 +1,4 @@
+pub mod Effects
+pub mod Following
+pub mod Faithful
+pub mod Public
