@@ -1,24 +1,28 @@
 -- What is drawn of a machine that was at a trace's start and has made steps of the trace.
-use Rattle.std.proofs.Common.{◌≡◌, ℕ, ◌<◌, List, ◌++◌, length, take, get_or, sym, ap, subst, ◌∙◌, Option}
+use Rattle.std.proofs.Common.{◌≡◌, ℕ, ◌<◌, List, ◌++◌, length, take, get_or, sym, ap, subst, ◌∙◌, Option, Some}
 use Rattle.std.proofs.lemmas.Option.{slice_get-get_or}
 use Rattle.line_map.specs.Sizes.{Sizes}
 use Rattle.op_model.specs.declared.events.Event.{Event}
 use Rattle.op_model.specs.Run.Machines.{MachineRun, IsApplied, IsEventOf, IsRunning}
-use Rattle.op_model.specs.Run.Runs.{run_by}
+use Rattle.op_model.specs.Run.Runs.{run, run_by}
 use Rattle.op_model.specs.Shares.{Trace, Linked}
 use Rattle.chart_strokes.specs.Strokes.{strokes_of}
 use Rattle.chart_svg.specs.Pictures.{picture_text}
-use Rattle.commands.specs.Runs.{machine_at_start}
+use Rattle.chart_laws.proofs.Public.{chart-told}
+use Rattle.commands.specs.Runs.{machine_after, machine_at_start}
 use Rattle.commands.specs.Steps.{AreStepsOf, HasMade}
 use Rattle.run_chart.specs.Charts.{ChartView, IsBefore, IsChartOf}
 use Rattle.run_chart.specs.declared.before.Before.{Before}
 use Rattle.chart_command.specs.Charted.{IsDrawable, IsChart}
 
 pub drawn-by : (chosen : Option ℕ) (trace : Trace) (old new : MachineRun) (text : List ℕ) → IsDrawable chosen trace → old ≡ machine_at_start Linked trace → HasMade old trace.steps new → text ≡ picture_text trace.sizes.nodes chosen (strokes_of new) → IsChart chosen trace text
-drawn-by chosen trace old new text fits fresh made is = record {
+drawn-by chosen trace old new text fits fresh made is =
+    let runs : run Linked trace trace.steps ≡ Some new.past = sym (ap (λ (m : MachineRun). run_by m.charge m.sizes m.programs m.past trace.steps) fresh) ∙ made.ran in
+    record {
   fits = fits;
   past = new.past;
-  ran = sym (ap (λ (m : MachineRun). run_by m.charge m.sizes m.programs m.past trace.steps) fresh) ∙ made.ran;
+  ran = runs;
+  told = chart-told (machine_after Linked trace trace.steps new.past) runs;
   drawn = is ∙ ap (λ (m : MachineRun). picture_text trace.sizes.nodes chosen (strokes_of m)) (made.went ∙ ap (λ (m : MachineRun). record m { events = m.events ++ trace.steps; past = new.past }) fresh);
 }
 

@@ -4,6 +4,7 @@ use Rattle.line_map.specs.Sizes.{all_lines}
 use Rattle.op_model.specs.Shares.{Trace, Linked}
 use Rattle.op_model.specs.Run.Runs.{Past, run}
 use Rattle.chart_strokes.specs.Strokes.{strokes_of}
+use Rattle.chart_laws.specs.Told.{AreTold}
 use Rattle.chart_svg.specs.Pictures.{picture_text}
 use Rattle.commands.specs.declared.replaying.ReplayError.{ReplayError}
 use Rattle.commands.specs.declared.replaying.ReplayError.TheVariants as replay
@@ -27,12 +28,13 @@ pub record IsDrawable (chosen : Option ℕ) (trace : Trace) : Type 0 where
   pub line : HasLine chosen trace
 
 -- The steps run from the start, each enabled at its place, and the text is the picture of the strokes of that run, of all or of those
--- about the chosen line
+-- about the chosen line. Those tell what happened
 pub record IsChart (chosen : Option ℕ) (trace : Trace) (text : List ℕ) : Type 0 where
   pub fits : IsDrawable chosen trace
   pub past : Past
   pub ran : run Linked trace trace.steps ≡ Some past
   pub drawn : text ≡ picture_text trace.sizes.nodes chosen (strokes_of (machine_after Linked trace trace.steps past))
+  pub told : AreTold (machine_after Linked trace trace.steps past) (strokes_of (machine_after Linked trace trace.steps past))
 
 -- a line is chosen that the machine doesn't have
 abbrev pub ChoosesNoLine : Option ℕ → Trace → ℕ → Type 0

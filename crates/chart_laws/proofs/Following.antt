@@ -136,8 +136,8 @@ followed-first m = record {
   told = All-nil (IsTold m []);
 }
 
-pub told : (m : MachineRun) → run_by m.charge m.sizes m.programs (start m.sizes) m.events ≡ Some m.past → AreTold m (strokes_of m)
+pub chart-told : (m : MachineRun) → run_by m.charge m.sizes m.programs (start m.sizes) m.events ≡ Some m.past → AreTold m (strokes_of m)
 unfolding strokes_of
-told m runs =
+chart-told m runs =
     let all = followed m [] m.events (first_chart m.sizes) m.past (followed-first m) runs in
     record { events = all.in_order; each = all.told }
