@@ -19,12 +19,12 @@ pub drawn-by : (chosen : Option ℕ) (trace : Trace) (old new : MachineRun) (tex
 drawn-by chosen trace old new text fits fresh made is =
     let runs : run Linked trace trace.steps ≡ Some new.past = sym (ap (λ (m : MachineRun). run_by m.charge m.sizes m.programs m.past trace.steps) fresh) ∙ made.ran in
     record {
-  fits = fits;
-  past = new.past;
-  ran = runs;
-  told = chart-told (machine_after Linked trace trace.steps new.past) runs;
-  drawn = is ∙ ap (λ (m : MachineRun). picture_text trace.sizes.nodes chosen (strokes_of m)) (made.went ∙ ap (λ (m : MachineRun). record m { events = m.events ++ trace.steps; past = new.past }) fresh);
-}
+      fits = fits;
+      past = new.past;
+      ran = runs;
+      told = chart-told (machine_after Linked trace trace.steps new.past) runs;
+      drawn = is ∙ ap (λ (m : MachineRun). picture_text trace.sizes.nodes chosen (strokes_of m)) (made.went ∙ ap (λ (m : MachineRun). record m { events = m.events ++ trace.steps; past = new.past }) fresh);
+    }
 
 -- ---- one step
 

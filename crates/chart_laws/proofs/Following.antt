@@ -1,6 +1,5 @@
 -- The law of charts, event by event.
-use Rattle.std.proofs.Common.{◌≡◌, ℕ, suc, ◌+◌, Bool, true, false, cond, ◌==◌, List, [], ◌∷◌, ◌++◌, length, drop, map, refl, sym, ap, ◌∙◌, subst, Option, Some, None, Result, Ok, Err, arith}
-use Rattle.std.specs.Prelude.{slice_get}
+use Rattle.std.proofs.Common.{◌≡◌, ℕ, suc, Bool, true, false, cond, ◌==◌, List, [], ◌∷◌, ◌++◌, length, drop, map, refl, sym, ap, ◌∙◌, subst, Some, Result, Ok, Err, arith}
 use Rattle.std.specs.List.{All}
 use Rattle.std.proofs.lemmas.List.{append-nil, append_assoc, length-map, map-append}
 use Rattle.std.proofs.lemmas.List.Elements.{All-nil, All-append, All-drop, All-map, All-push, All-weaker}
@@ -9,7 +8,6 @@ use Rattle.op_model.specs.declared.events.Cause.{Cause}
 use Rattle.op_model.specs.declared.events.Class.{Class}
 use Rattle.op_model.specs.declared.events.Event.{Event}
 use Rattle.op_model.specs.declared.events.Event.TheVariants.{Hit, Issue, Evict, Take, Reclaim}
-use Rattle.op_model.specs.declared.messages.Msg.{Msg}
 use Rattle.op_model.specs.Events.Step.{Done, effect, and_then, to_lane, event_node}
 use Rattle.op_model.specs.Run.Runs.{Past, past_after, start, run_by}
 use Rattle.op_model.specs.Run.Counts.{taken_by, front_of}
@@ -17,7 +15,7 @@ use Rattle.op_model.specs.Run.Machines.{MachineRun}
 use Rattle.op_model.proofs.Public.{run-push}
 use Rattle.chart_strokes.specs.declared.strokes.Letter.{Letter}
 use Rattle.chart_strokes.specs.declared.strokes.Stroke.{Stroke}
-use Rattle.chart_strokes.specs.Strokes.{letter_from, letter_taken, letters_after, letters_sent, stroke_of, strokes_of, Charted, charted, charted_after, charted_then, chart_of, first_chart}
+use Rattle.chart_strokes.specs.Strokes.{letter_from, letter_taken, letters_after, letters_sent, stroke_of, strokes_of, Charted, charted, charted_after, charted_then, first_chart}
 use Rattle.chart_strokes.proofs.Public.{IsFaithful, effect-is, faithful-after, faithful-first}
 use Rattle.chart_laws.specs.Told.{IsAmong, IsDoneIn, IsSentIn, IsTold, AreTold, event_of, message_in}
 use Rattle.chart_laws.proofs.Sent.{lane-among, sent-more, told-more, front-message, front-all}

@@ -1,5 +1,5 @@
 -- Letters and the events that sent them.
-use Rattle.std.proofs.Common.{◌≡◌, ℕ, suc, ◌+◌, Bool, true, false, cond, ◌==◌, List, [], ◌∷◌, ◌++◌, length, map, refl, sym, ap, ◌∙◌, subst, Option, Some, None, Result, Ok, Err, arith}
+use Rattle.std.proofs.Common.{◌≡◌, ℕ, Bool, true, false, cond, ◌==◌, List, [], ◌∷◌, ◌++◌, map, refl, ap, ◌∙◌, subst, Some, arith}
 use Rattle.std.specs.Prelude.{◌&&◌, slice_get}
 use Rattle.std.specs.List.{All}
 use Rattle.std.proofs.lemmas.List.{append_assoc}
@@ -10,13 +10,12 @@ use Rattle.op_model.specs.declared.events.Class.{Class}
 use Rattle.op_model.specs.declared.events.Event.{Event}
 use Rattle.op_model.specs.declared.messages.Msg.{Msg}
 use Rattle.op_model.specs.Messages.{same_class, msg_class}
-use Rattle.op_model.specs.Events.Step.{Done, effect, to_lane}
-use Rattle.op_model.specs.Run.Runs.{Past, start, run_by}
+use Rattle.op_model.specs.Events.Step.{Done, to_lane}
+use Rattle.op_model.specs.Run.Runs.{Past}
 use Rattle.op_model.specs.Run.Counts.{front_of}
 use Rattle.op_model.specs.Run.Machines.{MachineRun}
 use Rattle.chart_strokes.specs.declared.strokes.Letter.{Letter}
 use Rattle.chart_strokes.specs.declared.strokes.Stroke.{Stroke}
-use Rattle.chart_strokes.specs.Strokes.{letter_from}
 use Rattle.chart_strokes.proofs.Public.{msg_of}
 use Rattle.chart_laws.specs.Told.{IsAmong, IsDoneIn, IsSentIn, IsTold, message_in}
 

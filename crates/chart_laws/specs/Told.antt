@@ -1,5 +1,5 @@
 -- What the strokes of a run tell of it, without the letters in its lanes.
-use Rattle.std.specs.Prelude.{◌≡◌, ℕ, suc, List, [], ◌∷◌, ◌++◌, length, map, Option, Some, None, Ok, All}
+use Rattle.std.specs.Prelude.{◌≡◌, ℕ, suc, List, ◌∷◌, ◌++◌, length, map, Option, Some, None, Ok, All}
 use Rattle.op_model.specs.declared.messages.Msg.{Msg}
 use Rattle.op_model.specs.declared.events.Event.{Event}
 use Rattle.op_model.specs.Events.Step.{Done, effect}
