@@ -10,7 +10,6 @@ later one's. The first of them has the reading of all libraries in it. Only what
 import importlib.machinery
 import importlib.util
 import os
-import shutil
 import subprocess
 import sys
 import tempfile
@@ -19,12 +18,10 @@ import time
 
 def the_tool():
     """The command rt of the kit, as a module."""
-    path = os.path.realpath(shutil.which("rt"))
-    for folder in (os.path.dirname(path), "/opt/rattle/bin"):
-        if os.path.exists(f"{folder}/rtlib.py"):
-            sys.path.insert(0, folder)
-            path = f"{folder}/rt"
-            break
+    page = subprocess.run(["rt", "doc"], stdout=subprocess.PIPE, text=True, check=True).stdout.strip()
+    folder = os.path.join(os.path.dirname(page), "bin")
+    sys.path.insert(0, folder)
+    path = os.path.join(folder, "rt")
     loader = importlib.machinery.SourceFileLoader("rt_tool", path)
     tool = importlib.util.module_from_spec(importlib.util.spec_from_loader("rt_tool", loader))
     loader.exec_module(tool)
