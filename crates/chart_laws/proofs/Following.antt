@@ -17,7 +17,7 @@ use Rattle.chart_strokes.specs.declared.strokes.Letter.{Letter}
 use Rattle.chart_strokes.specs.declared.strokes.Stroke.{Stroke}
 use Rattle.chart_strokes.specs.Strokes.{letter_from, letter_taken, letters_after, letters_sent, stroke_of, strokes_of, Charted, charted, charted_after, charted_then, first_chart}
 use Rattle.chart_strokes.proofs.Public.{IsFaithful, effect-is, faithful-after, faithful-first}
-use Rattle.chart_laws.specs.Told.{IsAmong, IsDoneIn, IsSentIn, IsTold, AreTold, event_of, message_in}
+use Rattle.chart_laws.specs.Told.{IsAmong, IsDoneIn, IsSentIn, IsTold, AreTold, stroke_event, letter_message}
 use Rattle.chart_laws.proofs.Sent.{lane-among, sent-more, told-more, front-message, front-all}
 
 -- a letter of a lane, with the event that sent it
@@ -30,7 +30,7 @@ pub record IsFollowed (m : MachineRun) (events : List Event) (chart : Charted) :
   pub ran : run_by m.charge m.sizes m.programs (start m.sizes) events ≡ Some chart.past
   pub faithful : IsFaithful chart
   pub posted : (src dst : ℕ) (class : Class) → All (IsPosted m events src dst) (chart.letters src dst class)
-  pub in_order : map event_of chart.strokes ≡ events
+  pub in_order : map stroke_event chart.strokes ≡ events
   pub told : All (IsTold m events) chart.strokes
 
 module _ (m : MachineRun) (events : List Event) (chart : Charted) (was : IsFollowed m events chart) (event : Event) (done : Done) (does : effect m.charge m.sizes m.programs chart.past.state event ≡ Ok done) where
@@ -38,7 +38,7 @@ module _ (m : MachineRun) (events : List Event) (chart : Charted) (was : IsFollo
   number = suc (length chart.strokes)
 
   counted : number ≡ suc (length events)
-  counted = ap (λ n. suc n) (sym (length-map chart.strokes event_of) ∙ ap (λ (es : List Event). length es) was.in_order)
+  counted = ap (λ n. suc n) (sym (length-map chart.strokes stroke_event) ∙ ap (λ (es : List Event). length es) was.in_order)
 
   -- ---- the new letters
 
@@ -72,7 +72,7 @@ module _ (m : MachineRun) (events : List Event) (chart : Charted) (was : IsFollo
   abbrev stroke : Stroke
   stroke = stroke_of m.sizes m.programs number chart.letters chart.past event (past_after m.sizes chart.past done)
 
-  taken-now : (e : Event) → message_in (letter_taken chart.letters e) ≡ taken_by chart.past.state e
+  taken-now : (e : Event) → letter_message (letter_taken chart.letters e) ≡ taken_by chart.past.state e
   taken-now (Hit node) = refl
   taken-now (Issue node) = refl
   taken-now (Evict node line kind) = refl
@@ -107,7 +107,7 @@ module _ (m : MachineRun) (events : List Event) (chart : Charted) (was : IsFollo
     ran = run-push m.charge m.sizes m.programs (start m.sizes) chart.past events event done was.ran does;
     faithful = faithful-after m.sizes m.programs chart event done was.faithful;
     posted = all-posted;
-    in_order = map-append event_of chart.strokes (stroke ∷ []) ∙ ap (λ es. es ++ event ∷ []) was.in_order;
+    in_order = map-append stroke_event chart.strokes (stroke ∷ []) ∙ ap (λ es. es ++ event ∷ []) was.in_order;
     told = All-push (IsTold m (events ++ event ∷ [])) chart.strokes stroke (All-weaker (IsTold m events) (IsTold m (events ++ event ∷ [])) (told-more m events (event ∷ [])) chart.strokes was.told) told-now;
   }
 

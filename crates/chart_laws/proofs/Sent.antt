@@ -17,7 +17,7 @@ use Rattle.op_model.specs.Run.Machines.{MachineRun}
 use Rattle.chart_strokes.specs.declared.strokes.Letter.{Letter}
 use Rattle.chart_strokes.specs.declared.strokes.Stroke.{Stroke}
 use Rattle.chart_strokes.proofs.Public.{msg_of}
-use Rattle.chart_laws.specs.Told.{IsAmong, IsDoneIn, IsSentIn, IsTold, message_in}
+use Rattle.chart_laws.specs.Told.{IsAmong, IsDoneIn, IsSentIn, IsTold, letter_message}
 
 -- ---- what goes into a lane was sent
 
@@ -73,7 +73,7 @@ module _ (m : MachineRun) (events more : List Event) where
 
 -- ---- the front of a lane
 
-pub front-message : (letters : List Letter) → message_in (slice_get letters 0) ≡ front_of (map msg_of letters)
+pub front-message : (letters : List Letter) → letter_message (slice_get letters 0) ≡ front_of (map msg_of letters)
 front-message [] = refl
 front-message (l ∷ letters) = refl
 

@@ -33,9 +33,9 @@ pub record IsSentIn (m : MachineRun) (events : List Event) (letter : Letter) : T
   pub node : letter.src ≡ done.node
   pub sends : IsAmong letter.dst letter.msg done.out.sends
 
-abbrev pub message_in : Option Letter → Option Msg
-message_in None = None
-message_in (Some letter) = Some letter.msg
+abbrev pub letter_message : Option Letter → Option Msg
+letter_message None = None
+letter_message (Some letter) = Some letter.msg
 
 -- A stroke is of the event with its number, at its node. It shows the message that the event took, as a letter to that node which an event before it sent
 pub record IsTold (m : MachineRun) (events : List Event) (stroke : Stroke) : Type 0 where
@@ -43,14 +43,14 @@ pub record IsTold (m : MachineRun) (events : List Event) (stroke : Stroke) : Typ
   pub done : Done
   pub is_done : IsDoneIn m events stroke.number stroke.event past done
   pub node : stroke.node ≡ done.node
-  pub taken : message_in stroke.letter ≡ taken_by past.state stroke.event
+  pub taken : letter_message stroke.letter ≡ taken_by past.state stroke.event
   pub goes : (letter : Letter) → stroke.letter ≡ Some letter → letter.dst ≡ stroke.node
   pub sent : (letter : Letter) → stroke.letter ≡ Some letter → IsSentIn m (is_done.earlier) letter
 
-abbrev pub event_of : Stroke → Event
-event_of stroke = stroke.event
+abbrev pub stroke_event : Stroke → Event
+stroke_event stroke = stroke.event
 
 -- There is a stroke for each event, in their order, and each tells what happened
 pub record AreTold (m : MachineRun) (strokes : List Stroke) : Type 0 where
-  pub events : map event_of strokes ≡ m.events
+  pub events : map stroke_event strokes ≡ m.events
   pub each : All (IsTold m m.events) strokes
