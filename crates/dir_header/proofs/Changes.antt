@@ -11,6 +11,7 @@ use Rattle.op_model.specs.Operations.{Words}
 use Rattle.op_model.specs.Lines.{Header, is_pending}
 use Rattle.op_model.specs.Shares.{first_header, links_in, header_in, links_among}
 use Rattle.op_model.specs.Tables.Remote.{is_invalidate}
+use Rattle.op_model.proofs.Public.{get-put}
 use Rattle.dir_header.specs.Sharers.{Directory, Linked, IsDirectory, list_at, held_by, held_in, with_list}
 use Rattle.dir_header.specs.Budgets.{BudgetView}
 use Rattle.dir_header.specs.HomeSides.{HomeView, Fields, header_at, pending_in, IsHome}
@@ -19,7 +20,7 @@ use Rattle.dir_header.specs.declared.header.Standing.{Standing}
 use Rattle.dir_header.specs.declared.header.Standing.TheVariants.{Linkless, Victim, Pending}
 use Rattle.dir_header.specs.HomeParts.{line_header, home_view, IsCounted, IsHomeSide}
 use Rattle.dir_header.proofs.Directories.{held-set, list-set_same, list-set_other}
-use Rattle.dir_header.proofs.Tables.{get-put, get-within, table-put, line_is, line_from, line_to, line_own}
+use Rattle.dir_header.proofs.Tables.{get-within, table-put, line_is, line_from, line_to, line_own}
 use Rattle.dir_header.proofs.Sums.{sum-insert, sum-at-least}
 
 pub put_in-own : (victims : Nodes) (m : ℕ) (s : Standing) → listed (put_in victims m s) m ≡ stands_victim s

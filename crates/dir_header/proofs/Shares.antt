@@ -7,8 +7,8 @@ use Rattle.std.specs.FinMap as fin
 use Rattle.op_model.specs.Lines.{Header}
 use Rattle.op_model.specs.Shares.{Share, first_header, header_of, room_of, header_in, Headers}
 use Rattle.op_model.specs.Events.Node.{fits_victim}
+use Rattle.op_model.proofs.Public.{get-put}
 use Rattle.dir_header.specs.HomeSides.{HomeView, header_at, room_in, is_victim, with_header}
-use Rattle.dir_header.proofs.Tables.{get-put}
 
 -- a header that is put where one was put before
 pub put-put : (headers : Headers) (line : ℕ) (first second : Header) → fin.insert (fin.insert headers line first) line second ≡ fin.insert headers line second

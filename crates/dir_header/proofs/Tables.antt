@@ -7,15 +7,13 @@ use Rattle.std.proofs.lemmas.Nat.{div-mul-add, mod-mul-add}
 use Rattle.std.proofs.lemmas.Bool.{cases_lt}
 use Rattle.std.proofs.lemmas.Bool.Decides.{nat_tests}
 use Rattle.std.specs.Ordering.{nat_cmp}
-use Rattle.std.specs.Cmp.{nat_cmp_total, unsigned_tied}
+use Rattle.std.specs.Cmp.{nat_cmp_total}
 use Rattle.std.specs.FinMap as fin
 use Rattle.line_map.specs.Sizes.{Sizes, home_of}
 use Rattle.op_model.specs.Lines.{Header}
 use Rattle.op_model.specs.Shares.{Headers, first_header, first_headers}
+use Rattle.op_model.proofs.Public.{get-put}
 use Rattle.dir_header.specs.HomeParts.{table}
-
-pub get-put : {X : Type 0} (m : fin.FinMap nat_cmp X) (k : ℕ) (v : X) (q : ℕ) → fin.get (fin.insert m k v) q ≡ cond (q == k) (Some v) (fin.get m q)
-get-put m k v q = fin.get-insert nat_cmp_total m k v q ∙ ap (λ b. cond b (Some v) (fin.get m q)) (unsigned_tied q k)
 
 pub get-before : (f : ℕ → Header) (a n q : ℕ) → q < a → fin.get (table f a n) q ≡ None
 unfolding table

@@ -4,10 +4,9 @@ use Rattle.std.proofs.lemmas.Bool.{ne_eqb}
 use Rattle.std.proofs.lemmas.Bool.Decides.{nat_tests}
 use Rattle.op_model.specs.Lines.{Header, LineShare, Room, Outcome}
 use Rattle.op_model.specs.Messages.{Content, FAck, FwdGet, FwdGetX, Get, GetX, Inv, InvAck, Nak, Nakc, Put, PutX, Rpl, ShWb, Wb}
-use Rattle.op_model.specs.Operations.{is_load}
 use Rattle.op_model.specs.Tables.Processor.{ask, serves}
 use Rattle.op_model.specs.Tables.Processor as delayed_processor
-use Rattle.op_model.proofs.Public.{err-ok}
+use Rattle.op_model.proofs.Public.{ask-undone, err-ok}
 use Rattle.line_invariant.specs.Rows.{with_header, with_header_ok}
 use Rattle.line_invariant.proofs.Public as delayed
 use Rattle.line_invariant.proofs.Public.{if-either}
@@ -45,16 +44,11 @@ module _ (me home : ℕ) (apart : me ≢ home) (share : LineShare) (h : Header) 
       ∙ delayed.away-begin me home apart share h room op
       ∙ ap (with_header_ok h) (sym (begins-elsewhere me home me false room share apart op))
 
--- there a beginning only asks
-asks-still : (home : ℕ) (op : Op) (share : LineShare) → (ask home op share).done ≡ false
-unfolding ask
-asks-still home op share = if-either (λ (x : Outcome). x.done ≡ false) (is_load op.kind) _ _ (λ _. refl) (λ _. refl)
-
 delayed-asks : (me home : ℕ) (room : Room) (op : Op) (share : LineShare) (o : Outcome) → (me == home) ≡ false → delayed_processor.begin_op me home room op share ≡ Ok o → o.done ≡ false
 unfolding delayed_processor.begin_op
 delayed-asks me home room op share o off =
     if-either Asks (serves op share.copy) _ _ (λ _ e. absurd (err-ok _ o e)) (λ _.
-    (if-either Asks (me == home) _ _ (λ on e. absurd (let d : true ≡ false = sym on ∙ off in cc)) (λ _ e. let is : ask home op share ≡ o = cc in sym (ap (λ x. x.done) is) ∙ asks-still home op share)))
+    (if-either Asks (me == home) _ _ (λ on e. absurd (let d : true ≡ false = sym on ∙ off in cc)) (λ _ e. let is : ask home op share ≡ o = cc in sym (ap (λ x. x.done) is) ∙ ask-undone home op share)))
   where
     Asks : Result Outcome Cause → Type 0
     Asks r = r ≡ Ok o → o.done ≡ false

@@ -5,7 +5,7 @@ use Rattle.op_model.specs.Messages.{Content, msg_content, msg_line, same_class}
 use Rattle.op_model.specs.Events.Node.{messages}
 use Rattle.op_model.specs.Events.Step.{to_lane, one_off}
 use Rattle.op_model.specs.Shares.{Lanes}
-use Rattle.op_model.proofs.Public.{same_class-is}
+use Rattle.op_model.proofs.Public.{eqb-self, same_class-is}
 use Rattle.line_invariant.specs.Line.{addressed}
 use Rattle.eager_model.specs.Types.{Class, Msg}
 use Rattle.eager_model.specs.Ages.{sent_age}
@@ -41,10 +41,7 @@ ages-sent line given (m ∷ ms) = go (msg_line m == line) (ages-sent line given 
 
 -- the message in front, at its line and at the others
 pub ages-front : (m : Msg) (rest : List Msg) (ages : List ℕ) → ages_on (msg_line m) (m ∷ rest) ages ≡ first_age ages ∷ ages_on (msg_line m) rest (drop 1 ages)
-ages-front m rest ages = let e : (msg_line m == msg_line m) ≡ true = same (msg_line m) in rw e refl
-  where
-    same : (at : ℕ) → (at == at) ≡ true
-    same at = grind (arith, nat_tests)
+ages-front m rest ages = let e : (msg_line m == msg_line m) ≡ true = eqb-self (msg_line m) in rw e refl
 
 pub ages-behind : (q : ℕ) (m : Msg) (rest : List Msg) (ages : List ℕ) → q ≢ msg_line m → ages_on q (m ∷ rest) ages ≡ ages_on q rest (drop 1 ages)
 ages-behind q m rest ages other = ap (λ c. cond c (first_age ages ∷ ages_on q rest (drop 1 ages)) (ages_on q rest (drop 1 ages))) (apart (msg_line m) other)

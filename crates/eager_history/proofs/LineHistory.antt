@@ -1,23 +1,17 @@
 -- The history of a line is its entries in the order of their ages, without those that aren't completed. So it is legal, as these are loads, and has each node's operations on the line in the order of its program.
 use Rattle.std.proofs.Common.{◌≡◌, ℕ, zero, suc, ◌+◌, Bool, true, false, cond, ◌==◌, ◌&&◌, ◌⊎◌, inl, inr, List, [], ◌∷◌, filter, take, drop, length, slice_get, refl, arith, ap, sym, ◌∙◌, subst, Option, Some, None}
-use Rattle.std.proofs.lemmas.Bool.Decides.{nat_tests}
 use Rattle.std.specs.FinMap as fin
 use Rattle.line_map.specs.Sizes.{Sizes, home_of, line_of}
 use Rattle.op_model.specs.Flat.{IsLegal}
-use Rattle.op_model.specs.Operations.{is_load}
 use Rattle.op_model.specs.Run.History.{Follows, IsNext, entries_by, is_completed, kept_of}
-use Rattle.op_model.specs.Shares.{State, Trace, program, want_on}
-use Rattle.op_model.proofs.Public.{eqb-self}
-use Rattle.line_invariant.specs.Rows.{wanting}
-use Rattle.eager_model.specs.Types.{Entry, Op, Want}
+use Rattle.op_model.specs.Shares.{State, Trace, program}
+use Rattle.eager_model.specs.Types.{Entry, Op}
 use Rattle.eager_model.specs.History.{in_age_order, line_history}
 use Rattle.eager_model.specs.Laws.{FollowsOn, NextOn, IsLineHistory}
 use Rattle.eager_model.specs.Runs.{AgedEntry, Past}
 use Rattle.eager_model.proofs.Public.{any-writes}
 use Rattle.one_history.specs.Project.{project}
-use Rattle.one_history.specs.Sound.{IsBegunWell, answered_of}
-use Rattle.one_history.proofs.Public.{Done_or_load, both-some, by-kept, by-node, follows-each, kept-first}
-use Rattle.one_history.proofs.Public.{legal-kept, long-one, of-node, short-one}
+use Rattle.one_history.proofs.Public.{Done_or_load, by-kept, each-served, kept-first, legal-kept, of-node}
 use Rattle.one_history.proofs.Public as entries
 use Rattle.eager_history.specs.Project.{plain, plain_past, served_on, history_on, aged_line}
 use Rattle.eager_history.specs.Sound.{Each, IsEagerSound}
@@ -108,39 +102,14 @@ follows-on sizes line ops index (x ∷ es) follows = by-op (slice_get ops index)
         go false e rest = let off : (line_of sizes x.word == line) ≡ false = ap (λ w. line_of sizes w == line) is.2 ∙ e in rw off rest
 
 module _ (trace : Trace) (past : Past) (sound : IsEagerSound trace past) where
-  -- who has been served and isn't done loads
-  last-loads : (n : ℕ) (next : Op) → slice_get (program trace n) (past.state.share n).place ≡ Some next → length (entries_by n (plain past.served)) ≡ suc (past.state.share n).place → is_load next.kind ≡ true
+  each-done : entries.Each (Done_or_load past.state) (plain past.served)
   unfolding aged_line project
-  last-loads n next e long = go (past.state.share n).want refl (sound.ordered n).begun
-    where
-      go : (begun : Option Want) → (past.state.share n).want ≡ begun → IsBegunWell trace n (past.state.share n).place begun → is_load next.kind ≡ true
-      go None b well = absurd (let r = (sound.ordered n).rests b in omega (arith, r, long))
-      go (Some want) b well =
-          let same : want.op ≡ next = both-some _ _ _ well e in
-          ap (λ o. is_load o.kind) (sym same) ∙ loads (is_load want.op.kind) refl
-        where
-          line : ℕ
-          line = line_of trace.sizes want.op.word
-
-          loads : (c : Bool) → is_load want.op.kind ≡ c → c ≡ true
-          loads true load = refl
-          loads false write =
-              let at : ℕ = line_of trace.sizes want.op.word in
-              let wants : want_on trace.sizes (past.state.share n).want at ≡ wanting want.op want.marked = rw (b, eqb-self at) in
-              let no : answered_of trace.sizes (plain_past past) at n ≡ false = any-writes (home_of trace.sizes at) (aged_line trace.sizes past (sound.lines at).top at) (sound.lines at).good n want.op want.marked wants write in
-              let t : (length (entries_by n (plain past.served)) == suc (past.state.share n).place) ≡ true = grind (arith, nat_tests) in
-              let yes : answered_of trace.sizes (plain_past past) at n ≡ true = rw (b, eqb-self at, t) in
-              let d : true ≡ false = sym yes ∙ no in cc
-
-  each-served : entries.Each (Done_or_load past.state) (plain past.served)
-  each-served = by-node (Done_or_load past.state) (plain past.served) (λ n.
-      follows-each past.state n (program trace n) 0 (entries_by n (plain past.served)) (of-node n (plain past.served)) (sound.ordered n).order
-      (λ k next at e below. last-loads n next (rw (← at) e) (long-one _ _ _ (sound.ordered n).count at below)) (short-one _ _ (sound.ordered n).count))
+  each-done = each-served trace (plain_past past) sound.ordered (λ n line op marked. any-writes (home_of trace.sizes line) (aged_line trace.sizes past (sound.lines line).top line) (sound.lines line).good n op marked)
 
   each-of-line : (line : ℕ) → entries.Each (Done_or_load past.state) (plain (history_on trace.sizes line past.served))
   each-of-line line = of-aged (Done_or_load past.state) (history_on trace.sizes line past.served)
       (each-put-all (λ x. Done_or_load past.state x.entry) [] (served_on trace.sizes line past.served) tt
-      (each-filter (λ x. Done_or_load past.state x.entry) (λ x. line_of trace.sizes x.entry.word == line) past.served (to-aged (Done_or_load past.state) past.served each-served)))
+      (each-filter (λ x. Done_or_load past.state x.entry) (λ x. line_of trace.sizes x.entry.word == line) past.served (to-aged (Done_or_load past.state) past.served each-done)))
 
   pub one-line-history : (line : ℕ) → IsLineHistory trace past line
   one-line-history line =

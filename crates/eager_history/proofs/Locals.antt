@@ -4,14 +4,13 @@ use Rattle.std.proofs.lemmas.Bool.Decides.{nat_tests}
 use Rattle.line_map.specs.Sizes.{Sizes, home_of, line_of}
 use Rattle.op_model.specs.Events.Node.{EvictLine, HitNext, Input, IssueNext, NodeOutcome, ReclaimLine, bind, by_row, departs, evict_line, hit_next, is_outstanding, map_ok, with_next}
 use Rattle.op_model.specs.Events.Step.{none_off}
-use Rattle.op_model.specs.Lines.{Copy, LineShare, NoService, Own, For, Outcome, Service, is_exclusive, words_of}
-use Rattle.op_model.specs.Operations.{Words}
+use Rattle.op_model.specs.Lines.{Copy, LineShare, Outcome, is_exclusive, words_of}
 use Rattle.op_model.specs.Shares.{Share, Trace, Unlinked, conflicts, copy_of, line_share, program, room_of, share_at, want_on}
 use Rattle.op_model.specs.Tables.Processor.{evict, hit, reclaim, serves}
 use Rattle.op_model.proofs.Public.{err-ok, free-want, none-on, serves-copy}
 use Rattle.line_invariant.specs.Types.{EvictKind, LaneGate}
 use Rattle.line_invariant.specs.Line.{share_of}
-use Rattle.line_invariant.specs.Rows.{IsDoneRight, IsOwnServed, IsOwnWant}
+use Rattle.line_invariant.specs.Rows.{IsDoneRight}
 use Rattle.line_invariant.proofs.Public.{away-evict, if-either}
 use Rattle.eager_model.specs.Types.{Cause, Op, Want}
 use Rattle.eager_model.specs.Ages.{LineAges, ages_begun, ages_left, filled_age}
@@ -22,7 +21,7 @@ use Rattle.eager_model.specs.Runs.{Past, past_after}
 use Rattle.eager_model.proofs.Public.{any-begin, any-hit, any-idle, any-leave}
 use Rattle.one_history.specs.Project.{project}
 use Rattle.one_history.specs.Sound.{IsNextOp, answered_of}
-use Rattle.one_history.proofs.Public.{IsNextWant, IsQuiet, IsServedIn, begun-next, copy-same, evict-quiet}
+use Rattle.one_history.proofs.Public.{IsNextWant, IsQuiet, IsServedIn, begun-next, copy-same, evict-quiet, own-done, own-served, own-want}
 use Rattle.one_history.proofs.Public.{hit-away, own-ok, own-row, room-issue}
 use Rattle.eager_history.specs.Project.{plain_past, aged_line}
 use Rattle.eager_history.specs.Sound.{IsEagerSound}
@@ -53,21 +52,6 @@ module _ (trace : Trace) (positive : 0 < trace.sizes.words) (past : Past) (sound
   none-served : (node line : ℕ) → (share node).want ≡ None → answered_of sizes (plain_past past) line node ≡ false
   unfolding aged_line project
   none-served node line free = any-idle (home_of sizes line) (line_at line) (sound.lines line).good node (none-on sizes (share node).want line free)
-
-  own-served : (op : Op) (words : Words) (node line : ℕ) (service : Service) → IsNextOp trace node (share node).place line op → (share node).want ≡ None → IsOwnServed op words service → IsServedIn trace (plain_past past) node line words service
-  own-served op words node line NoService is free h = tt
-  own-served op words node line (Own served on) is free h = (h.0, subst (IsNextOp trace node (share node).place line) (sym h.1) is, inl free, none-served node line free)
-  own-served op words node line (For other on) is free h = absurd h
-
-  own-want : (op : Op) (node line : ℕ) (want : Option Want) → IsNextOp trace node (share node).place line op → IsOwnWant op want → IsNextWant trace node (share node).place line want
-  own-want op node line None is h = tt
-  own-want op node line (Some want) is h = subst (IsNextOp trace node (share node).place line) (sym h) is
-
-  right-any : (Known : Type 0) (service : Service) (done : Bool) (want : Option Want) → IsDoneRight ⊥ service done want → IsDoneRight Known service done want
-  right-any Known NoService true want h = absurd h.1
-  right-any Known NoService false want h = tt
-  right-any Known (Own op on) done want h = h
-  right-any Known (For node on) done want h = h
 
   memory-same : (node line : ℕ) → (node == home_of sizes line) ≡ true → (past.ages.node (home_of sizes line)).memory line ≡ (past.ages.node node).memory line
   memory-same node line e = let same : home_of sizes line ≡ node = grind (arith, nat_tests) in ap (λ k. (past.ages.node k).memory line) same
@@ -125,7 +109,7 @@ module _ (trace : Trace) (positive : 0 < trace.sizes.words) (past : Past) (sound
           ∙ ap (λ d. (cond d (record (line_ages (past.ages.node node) line) { copy = filled_age (copy_of (by_row sizes node (share node) line o).share line) ((past.ages.node node).memory line) }) (line_ages (past.ages.node node) line)).copy) (sym own_done))
           (λ home. begun-memory x.done _ _ (ages_of (line_at line) node) (line_ages (past.ages.node node) line) (memory-same node line home)
           ∙ ap (λ d. (cond d (record (line_ages (past.ages.node node) line) { copy = filled_age (copy_of (by_row sizes node (share node) line o).share line) ((past.ages.node node).memory line) }) (line_ages (past.ages.node node) line)).memory) (sym own_done))
-          (λ a b class. refl) (own-served op _ node line x.served is free law.2) (right-any _ x.served x.done x.share.want law.4) (own-want op node line x.share.want is law.3)
+          (λ a b class. refl) (own-served trace (plain_past past) node line _ op x.served is free (none-served node line free) law.2) (own-done _ x.served x.done x.share.want law.4) (own-want trace node (share node).place line op x.share.want is law.3)
           (inr (room-issue sizes (share node) line free room)) (inl free) sound.paired (λ at q other. refl) law.1 law.0)
         where
           at-home : (line : ℕ) (op : Op) (x : Outcome) → begin_op node (home_of sizes line) (room_of Unlinked sizes (share node)) op (share_at sizes past.state node line) ≡ Ok x → x.done ≡ true → (node == home_of sizes line) ≡ true

@@ -25,14 +25,13 @@ use Rattle.eager_model.specs.Served.{IsServedAt, IsServedOn}
 use Rattle.eager_model.proofs.Public.{above, any-idle}
 use Rattle.one_history.specs.Project.{project}
 use Rattle.one_history.specs.Sound.{IsCached, IsOrdered, answered_of}
-use Rattle.one_history.proofs.Public.{IsNextWant, IsOn, IsRoomFor, IsServedIn, begun-next, cached-row}
+use Rattle.one_history.proofs.Public.{IsNextWant, IsOn, IsRoomFor, IsServedIn, nodes-after, begun-next, cached-row, unserved-before}
 use Rattle.one_history.proofs.Public.{next-on}
 use Rattle.eager_history.specs.Project.{plain, plain_past, served_on, last_age, aged_line}
 use Rattle.eager_history.specs.Sound.{Each, IsPastOf, IsLineSound, IsEagerSound}
 use Rattle.eager_history.proofs.Added.{IsAdded, none-added, load-added, for-added, write-added}
 use Rattle.eager_history.proofs.AgedProject.{row_past, with_lanes, entries_at, project-aged, project-aged-other}
 use Rattle.eager_history.proofs.LaneAges.{Ages, ages_sent}
-use Rattle.eager_history.proofs.Nodes.{all-fine, not-yet}
 
 -- a history is told by what was served on its line
 same-past : (trace : Trace) (served now : List AgedEntry) (line top : ℕ) → served_on trace.sizes line now ≡ served_on trace.sizes line served → IsPastOf trace served line top → IsPastOf trace now line top
@@ -134,11 +133,11 @@ module _ (trace : Trace) (positive : 0 < trace.sizes.words) (past : Past) (sound
       cached n false e = sound.cached n
 
       idle : outcome.share.want ≡ None → outcome.done ≡ false → answered_of sizes (plain_past past) line node ≡ false
-      idle none still = not-yet trace (plain_past past) node line words outcome.served outcome.done outcome.share.want well right still (any-idle home after good node (rw (eqb-self node) none))
+      idle none still = unserved-before trace (plain_past past) node line words outcome.served outcome.done outcome.share.want well right still (any-idle home after good node (rw (eqb-self node) none))
 
       fine : (n : ℕ) → IsOrdered trace n (next.state.share n) (entries_by n (plain_past next).served) × ((q : ℕ) → q ≢ line → answered_of sizes (plain_past next) q n ≡ answered_of sizes (plain_past past) q n)
           × (answered_of sizes (plain_past next) line n ≡ answered_after node outcome.served outcome.done (answered_of sizes (plain_past past) line) n)
-      fine n = rw plain-next (all-fine trace (plain_past past) sound.ordered node line (node == home) outcome.share words outcome.served outcome.done well right begins idle n)
+      fine n = rw plain-next (nodes-after trace (plain_past past) sound.ordered node line (node == home) outcome.share words outcome.served outcome.done well right begins idle n)
 
       pairs : (a b : ℕ) (class : Class) → length (next.ages.lane a b class) ≡ length (next.state.lane a b class)
       pairs a b class =

@@ -1,6 +1,5 @@
 -- An acknowledgement of a line that drains, call by call.
-use Rattle.std.proofs.Common.{◌≡◌, ℕ, ◌-◌, ◌<◌, ◌≤◌, true, false, cond, nat_le, ◌&&◌, ap, ◌∙◌, arith}
-use Rattle.std.proofs.lemmas.Bool.Decides.{nat_tests}
+use Rattle.std.proofs.Common.{◌≡◌, ℕ, ◌-◌, ◌<◌, ◌≤◌, true, cond, ◌&&◌, ap, ◌∙◌, arith}
 use Rattle.line_map.specs.Sizes.{home_of}
 use Rattle.op_model.specs.declared.state.Wait.TheVariants.{Idle}
 use Rattle.op_model.specs.Nodes.{Nodes, listed, unlist, only}
@@ -12,12 +11,7 @@ use Rattle.cpu_cache.specs.Processors.{ProcView}
 use Rattle.dir_header.specs.HomeSides.{HomeView, header_at, with_header, relisted, unlisted}
 use Rattle.node_share.specs.Parts.{share_of, row_at, AreCopies}
 use Rattle.node_share.proofs.Public.{Puts, header-row, puts-as, puts-once, puts-then}
-
-few-test : (acks : ℕ) → acks ≤ 1 → nat_le acks 1 ≡ true
-few-test acks few = grind (arith, nat_tests)
-
-more-test : (acks : ℕ) → 1 < acks → nat_le acks 1 ≡ false
-more-test acks more = grind (arith, nat_tests)
+use Rattle.home_getx.proofs.Public.{few-test, more-test}
 
 module _ {D : Type 0} (home : HomeView D) (src line : ℕ) (own : home_of home.sizes line ≡ home.node) (waits : is_invalidate (header_at home line).wait ≡ true) (was : listed (header_at home line).list src ≡ true) where
   abbrev h : Header

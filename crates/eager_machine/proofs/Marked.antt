@@ -1,19 +1,18 @@
 -- The set of busy lanes: it follows one lane's change, and its first lane is the first one that isn't empty.
-use Rattle.std.proofs.Common.{◌≡◌, ◌↔◌, ℕ, suc, ◌<◌, ◌≤◌, Bool, true, false, cond, ◌==◌, ◌&&◌, not, refl, ap, sym, subst, ◌∙◌, arith, List, [], ◌∷◌, ◌++◌, drop, length, map, set, get_or, Option, Some, None, IsNone, IfSome}
+use Rattle.std.proofs.Common.{◌≡◌, ◌↔◌, ℕ, suc, ◌<◌, ◌≤◌, Bool, true, false, cond, ◌==◌, ◌&&◌, not, refl, ap, sym, ◌∙◌, arith, List, [], ◌∷◌, ◌++◌, drop, length, map, set, get_or, Option, Some, None, IsNone, IfSome}
 use Rattle.std.specs.Prelude.{nat_lt}
 use Rattle.std.specs.Option.{option_map}
 use Rattle.std.proofs.lemmas.Bool.Decides.{nat_tests}
 use Rattle.std.proofs.lemmas.List.{length-set}
 use Rattle.line_map.specs.Sizes.{Sizes}
 use Rattle.op_model.specs.declared.events.Class.{Class}
-use Rattle.op_model.specs.declared.events.Class.TheVariants.{Request}
 use Rattle.op_model.specs.Shares.{Lanes}
 use Rattle.op_model.specs.Run.Schedules.{Lane, first_busy_in, is_no_message}
 use Rattle.lane_queues.specs.BusyLanes.{marks_of, Remarks}
-use Rattle.lane_queues.specs.FirstBusy.{AnswersFirst, Marks, busy_in, lane_named}
+use Rattle.lane_queues.specs.FirstBusy.{AnswersFirst, busy_in, lane_named}
 use Rattle.lane_queues.specs.LaneStates.{same_lane}
 use Rattle.lane_queues.specs.Queues.{lane_count, lane_number}
-use Rattle.lane_queues.proofs.Public.{answer_defined}
+use Rattle.lane_queues.proofs.Public.{answer_defined, narrowed}
 use Rattle.machine_face.specs.Reads.{IsLane}
 use Rattle.eager_machine.specs.declared.queue.AgedMsg.{AgedMsg}
 use Rattle.eager_machine.specs.Lanes.{AgedQueues, UnderWay, lane_in, messages_of, msg_of, with_lane, IsBetween, IsSilent}
@@ -83,28 +82,6 @@ module _ (queues : AgedQueues) (masks : List ℕ) (are : AreMarked queues masks)
     few = are.few;
     marks = λ a b k x y. are.marks a b k x y ∙ ap (λ (w : UnderWay). busy_in (messages_of w) a b k) (sym (lane-kept queues n queue new is same));
   }
-
--- marks that agree below 64, and with which no lane is marked outside of the machine
-narrowed : (nodes : ℕ) (marks busy : Marks) → nodes ≤ 64 → ((a b : ℕ) (k : Class) → a < 64 → b < 64 → marks a b k ≡ busy a b k) → ((a b : ℕ) (k : Class) → busy a b k ≡ true → (a < nodes) × (b < nodes)) → (answer : Option (ℕ × ℕ × Class)) →
-    AnswersFirst 64 marks answer → AnswersFirst nodes busy answer
-narrowed nodes marks busy few agree inside None quiet = λ src from dst class to.
-    sym (agree src dst class (omega (arith, from, few)) (omega (arith, to, few))) ∙ quiet src (omega (arith, from, few)) dst class (omega (arith, to, few))
-narrowed nodes marks busy few agree inside (Some lane) is = record {
-  from = within.0;
-  first = record {
-    to = within.1;
-    marked = found;
-    before = λ other k less. sym (agree lane.0 other k is.from (omega (arith, less, is.first.to))) ∙ is.first.before other k less;
-    requests = λ e. sym (agree lane.0 lane.1 Request is.from is.first.to) ∙ is.first.requests e;
-  };
-  before = λ other dst k less to. sym (agree other dst k (omega (arith, less, is.from)) (omega (arith, to, few))) ∙ is.before other dst k less (omega (arith, to, few));
-}
-  where
-    found : busy lane.0 lane.1 lane.2 ≡ true
-    found = sym (agree lane.0 lane.1 lane.2 is.from is.first.to) ∙ is.first.marked
-
-    within : (lane.0 < nodes) × (lane.1 < nodes)
-    within = inside lane.0 lane.1 lane.2 found
 
 -- the answer as the lane that it names
 lane-of : (answer : Option (ℕ × ℕ × Class)) (found : Option Lane) → option_map lane_named answer ≡ found → IsLane answer found

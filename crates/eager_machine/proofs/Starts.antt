@@ -24,10 +24,11 @@ use Rattle.eager_machine.specs.Runs.{IsRunKept}
 use Rattle.event_tally.specs.Tallies.{tally_of}
 use Rattle.event_tally.proofs.Public.{tally_of-nil}
 use Rattle.machine.specs.Kept.{no_sends}
-use Rattle.machine.proofs.Public.{below_or_at, sent_by-nil, slice_get-middle, slice_get-push_below}
+use Rattle.machine.proofs.Public.{below_or_at, sent_by-nil, slice_get-push_below}
 use Rattle.message_range.specs.Fitting.{IsSentOf}
 use Rattle.msg_words.specs.SendList.{SendList}
 use Rattle.std.proofs.lemmas.Bool.Decides.{nat_tests}
+use Rattle.op_model.proofs.Public.{slice_get-middle}
 use Rattle.eager_machine.specs.Starts.{start_view, IsNewAt, AreNew}
 
 -- the nodes so far are new, and their programs stand before those that are left

@@ -9,25 +9,20 @@ use Rattle.op_model.specs.Messages.{Content, Get, GetX, Wb, Nak}
 use Rattle.op_model.specs.Lines.{Absent, Copy, Header, Room, no_message, one_to, is_empty, is_idle}
 use Rattle.op_model.specs.Tables.Home.{refuse, on_wb}
 use Rattle.line_invariant.specs.Line.{share_of}
-use Rattle.line_invariant.specs.Good.{Status, Asking, AskingX, Answered, NotLeaving, WritesBack, NoDuty, Bare, Holds, Usual, Role, IsGoodNode, holds_in, is_put, asking_part}
-use Rattle.line_invariant.proofs.Public.{lanes-reply, node-refused, node-wrote-back, wb-first}
+use Rattle.line_invariant.specs.Good.{Status, Asking, AskingX, Answered, NotLeaving, WritesBack, NoDuty, Bare, Holds, Usual, IsGoodNode, holds_in, is_put, asking_part}
+use Rattle.line_invariant.proofs.Public.{asks-no-put, get-first, getx-first, lanes-departed, lanes-reply, node-refused, node-wrote-back, wb-first}
 use Rattle.eager_model.specs.Rows.{meets}
 use Rattle.eager_model.specs.Line.{AgedLine, ages_of, after_take}
 use Rattle.eager_model.specs.Good.{IsEagerGood, IsDraining, has_words, draining_role}
-use Rattle.eager_model.proofs.Hints.{lanes-departed}
 use Rattle.eager_model.proofs.Acknowledgements.{bare-has-none}
 use Rattle.eager_model.proofs.SentAges.{none-sent, one-sent, given_age, taken-ages}
-use Rattle.eager_model.proofs.DrainingFronts.{asks, asks-apart, get-first, getx-first}
+use Rattle.eager_model.proofs.DrainingFronts.{asks, asks-apart}
 use Rattle.eager_model.proofs.DrainingTaken.{IsTakenHome, taken-home}
 use Rattle.eager_model.proofs.DrainingMeets.{by-row, meets-get, meets-getx, does-get, does-getx, meets-wb, does-wb}
 
 refused-has : (copy : Copy) (want : Option Want) (status : Status) (from : ℕ) (load : Bool) → status.carrier ≡ cond load Asking AskingX → has_words copy want (record status { carrier = Answered from (Nak Pending) }) ≡ has_words copy want status
 refused-has copy want status from true asking = grind arith
 refused-has copy want status from false asking = grind arith
-
-asks-no-put : (load : Bool) → is_put (cond load Asking AskingX) ≡ false
-asks-no-put true = refl
-asks-no-put false = refl
 
 -- who holds the line is its grantee
 pub holder-is : (grantee p : ℕ) (holds : Bool) → holds_in (draining_role grantee holds p) ≡ true → ((p == grantee) ≡ true) × (holds ≡ true)

@@ -6,14 +6,14 @@ use Rattle.line_invariant.specs.Types.{HeldPending}
 use Rattle.op_model.specs.Operations.{is_load}
 use Rattle.op_model.specs.Messages.{Content, Get, GetX}
 use Rattle.op_model.specs.Lines.{Copy, Room, Outcome, NoService, sending, one_to, begun, is_empty, is_pending, without_shared}
-use Rattle.op_model.specs.Tables.Processor.{serves, ask, begin_at_home, fits, evict, leave_remote, leave_home}
+use Rattle.op_model.specs.Tables.Processor.{serves, ask, begin_at_home}
 use Rattle.op_model.specs.Tables.Processor as delayed
 use Rattle.op_model.specs.Events.Node.{map_ok}
 use Rattle.op_model.proofs.Public.{err-ok}
 use Rattle.line_invariant.specs.Line.{share_of}
 use Rattle.line_invariant.specs.Good.{Status, Resting, Asking, AskingX, is_put}
 use Rattle.line_invariant.specs.Rows.{IsOwnWant, EndsRight}
-use Rattle.line_invariant.proofs.Public.{asks, if-either, keep, lanes-ask, node-ask}
+use Rattle.line_invariant.proofs.Public.{asks-no-put, if-either, keep, lanes-ask, node-ask}
 use Rattle.eager_model.specs.Rows.{begin_op, write_and_drain, writes_shared}
 use Rattle.eager_model.specs.Ages.{with_copy, ages_begun}
 use Rattle.eager_model.specs.Line.{AgedLine, ages_of, aged_row}
@@ -64,8 +64,8 @@ module _ (home : ℕ) (line : AgedLine) (newest : line.words_at line.top ≡ lin
             writes = inl refl;
             node = rw (words-same line.words_at line.line.words line.top line.top (good.has p) refl newest (good.ages.within p)) (node-ask _ (line.words_at (good.has p)) _ (line.line.copy p) (line.line.want p) (good.status p) op load (good.nodes p apart) free is miss);
             had = ask-had (line.line.copy p) (line.line.want p) (good.status p) op load free rests;
-            answered = λ node. keep line.line.answered good.status good.answered p _ (asks load ∙ sym (ap is_put rests)) node;
-            last = (λ some. good.ages.under_copy p (ask-some load (line.line.copy p) some), λ put. absurd (let e = asks load in grind arith));
+            answered = λ node. keep line.line.answered good.status good.answered p _ (asks-no-put load ∙ sym (ap is_put rests)) node;
+            last = (λ some. good.ages.under_copy p (ask-some load (line.line.copy p) some), λ put. absurd (let e = asks-no-put load in grind arith));
           }
         where
           sent : (load : Bool) → AreSentAges (line.copy_age p) line.top good.has p (one_to home (cond load Get GetX))

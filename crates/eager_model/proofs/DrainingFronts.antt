@@ -3,20 +3,12 @@ use Rattle.std.proofs.Common.{◌≡◌, ◌≢◌, ℕ, Bool, true, false, cond
 use Rattle.std.proofs.lemmas.Bool.{ne_eqb}
 use Rattle.std.proofs.lemmas.Bool.Decides.{nat_tests}
 use Rattle.eager_model.specs.Types.{Request, Reply}
-use Rattle.op_model.specs.Messages.{Content, Get, GetX, Inv, InvAck}
+use Rattle.op_model.specs.Messages.{Content, Inv, InvAck}
 use Rattle.op_model.proofs.Public.{eqb-self}
-use Rattle.line_invariant.specs.Good.{Carrier, Asking, AskingX, Answered, Leaving, NotLeaving, Duty, NoDuty, Told, Acked, IsOnDuty, asked_role, Recalled, leaving_part, asking_part, told_part, reply_part, answer_part}
+use Rattle.line_invariant.specs.Good.{Answered, Duty, NoDuty, Told, Acked, IsOnDuty, asked_role, Recalled, leaving_part, asking_part, told_part, reply_part, answer_part}
+use Rattle.line_invariant.proofs.Public.{answer-first}
 use Rattle.eager_model.specs.Line.{AgedLine}
 use Rattle.eager_model.specs.Good.{IsDraining, draining_role}
-
-pub get-first : (leaving : Leaving) (carries : Carrier) (rest : List Content) → leaving_part leaving ++ asking_part carries ≡ Get ∷ rest → (leaving ≡ NotLeaving) × (carries ≡ Asking) × (rest ≡ [])
-get-first leaving carries rest e = grind arith
-
-pub getx-first : (leaving : Leaving) (carries : Carrier) (rest : List Content) → leaving_part leaving ++ asking_part carries ≡ GetX ∷ rest → (leaving ≡ NotLeaving) × (carries ≡ AskingX) × (rest ≡ [])
-getx-first leaving carries rest e = grind arith
-
-answer-first : (from : ℕ) (carries : Carrier) (content : Content) (rest : List Content) → answer_part from carries ≡ content ∷ rest → (carries ≡ Answered from content) × (rest ≡ [])
-answer-first from carries content rest e = grind (arith, nat_tests)
 
 -- of requests the home sends Inv alone, and of replies it gets InvAck alone
 drain-told : (grantee p : ℕ) (holds lists : Bool) (duty : Duty) (content : Content) (rest : List Content) → IsOnDuty (draining_role grantee holds p) lists duty → told_part duty ≡ content ∷ rest → (content ≡ Inv) × (duty ≡ Told) × (rest ≡ []) × ((p == grantee) ≡ false)

@@ -7,8 +7,8 @@ use Rattle.op_model.specs.Operations.{Words, is_load, after_op}
 use Rattle.op_model.specs.Lines.{Copy, Absent, Shared, Exclusive, Outcome, Own, no_message, is_empty, words_of}
 use Rattle.op_model.specs.Tables.Processor.{serves, hit, done_on}
 use Rattle.line_invariant.specs.Line.{share_of}
-use Rattle.line_invariant.specs.Good.{Status, Carrier, Resting, Role, IsGoodNode, IsCarried, holds_in, is_put}
-use Rattle.line_invariant.proofs.Public.{after-load, done, done-load, lanes-quiet, lanes-same, node-writes}
+use Rattle.line_invariant.specs.Good.{Status, Carrier, Resting, IsGoodNode, IsCarried, holds_in, is_put}
+use Rattle.line_invariant.proofs.Public.{after-load, done, done-load, lanes-quiet, lanes-same, node-fresh, node-writes}
 use Rattle.line_invariant.proofs.Public.{rests, serving-rests}
 use Rattle.eager_model.specs.Ages.{LineAges, with_copy}
 use Rattle.eager_model.specs.Line.{AgedLine, ages_of, aged_row}
@@ -30,9 +30,6 @@ pub exclusive-serves : (op : Op) (copy : Copy) → serves op copy ≡ true → i
 exclusive-serves op Absent serve write = cc
 exclusive-serves op (Shared has) serve write = cc
 exclusive-serves op (Exclusive has) serve write = (has, refl)
-
-node-fresh : (role : Role) (words : Words) (lists : Bool) (copy : Copy) (want : Option Want) (status : Status) (op : Op) → IsGoodNode role words lists copy want status → serves op copy ≡ true → words_of copy ≡ words
-node-fresh role words lists copy want status op good serve = grind arith
 
 -- a node that has begun nothing may have any copy
 pub resting-any : (want : Option Want) (copy next : Copy) (carries : Carrier) → carries ≡ Resting → IsCarried want copy carries → IsCarried want next carries

@@ -8,7 +8,7 @@ use Rattle.op_model.specs.Nodes.{listed}
 use Rattle.op_model.specs.Messages.{Content, Wb, Rpl}
 use Rattle.op_model.specs.Lines.{Copy, Absent, Shared, Exclusive, LineShare, Outcome, NoService, sending, no_message, one_to, is_empty, is_exclusive, words_of}
 use Rattle.op_model.specs.Tables.Processor.{fits, evict, leave_remote, leave_home}
-use Rattle.op_model.proofs.Public.{eqb-self, err-ok}
+use Rattle.op_model.proofs.Public.{eqb-self, err-ok, fits-copy}
 use Rattle.line_invariant.specs.Line.{share_of, addressed}
 use Rattle.line_invariant.specs.Good.{Resting, Leaving, NotLeaving, WritesBack, Hints, IsGoodNode, leaving_part}
 use Rattle.eager_model.specs.Types.{Request, Reply}
@@ -22,18 +22,13 @@ use Rattle.eager_model.proofs.DrainingRows.{IsRowAway, away-good}
 use Rattle.eager_model.proofs.DrainingHome.{IsRowHome, home-good}
 use Rattle.eager_model.proofs.DrainingHits.{copy-has, home-holds, resting-any}
 
-fit-some : (at_home : Bool) (kind : EvictKind) (copy : Copy) → fits at_home kind copy ≡ true → is_empty copy ≡ false
-fit-some at_home kind Absent fit = absurd (grind arith)
-fit-some at_home kind (Shared words) fit = refl
-fit-some at_home kind (Exclusive words) fit = refl
-
 module _ (home : ℕ) (line : AgedLine) (newest : line.words_at line.top ≡ line.line.words) (good : IsDraining home line) where
   abbrev Keeps : ℕ → Outcome → Type 0
   Keeps p o = IsEagerGood home (aged_row home p o (with_copy o.share.copy (ages_left (p == home) (share_of line.line p) (ages_of line p))) line)
 
   module _ (p : ℕ) (apart : p ≢ home) (kind : EvictKind) (fit : fits false kind (line.line.copy p) ≡ true) where
     some : is_empty (line.line.copy p) ≡ false
-    some = fit-some false kind (line.line.copy p) fit
+    some = fits-copy false kind (line.line.copy p) fit
 
     left : IsGoodNode (draining_role good.grantee good.holds p) (line.words_at (good.has p)) (listed line.line.header.list p) Absent (line.line.want p) (record (good.status p) { leaving = leaving_by kind (line.line.copy p) }) × ((good.status p).carrier ≡ Resting) × ((good.status p).leaving ≡ NotLeaving)
     left = node-leave _ (line.words_at (good.has p)) _ (line.line.copy p) (line.line.want p) (good.status p) kind (good.nodes p apart) fit
@@ -71,7 +66,7 @@ module _ (home : ℕ) (line : AgedLine) (newest : line.words_at line.top ≡ lin
   -- memory takes the words of the home's copy
   module _ (kind : EvictKind) (fit : fits true kind (line.line.copy home) ≡ true) where
     home-some : is_empty (line.line.copy home) ≡ false
-    home-some = fit-some true kind (line.line.copy home) fit
+    home-some = fits-copy true kind (line.line.copy home) fit
 
     own : ((home == good.grantee) ≡ true) × (good.holds ≡ true) × (line.line.copy home ≡ Exclusive line.line.words)
     own = home-holds home good.grantee good.holds line.line.words (line.line.copy home) good.header.own home-some

@@ -1,29 +1,21 @@
 -- A hint that comes while a line drains changes nothing at the home, H27.
 use Rattle.std.proofs.Common.{◌≡◌, ◌≢◌, ℕ, Bool, true, List, ◌∷◌, refl, arith, sym, ◌∙◌, Option}
-use Rattle.std.proofs.lemmas.Bool.Decides.{nat_tests}
-use Rattle.eager_model.specs.Types.{Class, Request, Reply, Want}
+use Rattle.eager_model.specs.Types.{Request, Want}
 use Rattle.op_model.specs.Operations.{Words}
 use Rattle.op_model.specs.Messages.{Content, Rpl}
 use Rattle.op_model.specs.Lines.{Copy, Room, LineShare, sending, no_message, is_empty}
 use Rattle.op_model.specs.Tables.Home.{on_rpl}
 use Rattle.op_model.specs.Tables.Remote as delayed
-use Rattle.op_model.specs.Events.Step.{put_at}
-use Rattle.line_invariant.specs.Line.{Lanes, share_of, sent, taken}
-use Rattle.line_invariant.specs.Good.{Status, Hints, NotLeaving, Role, IsGoodNode, asking_part, expected}
+use Rattle.line_invariant.specs.Line.{share_of, sent}
+use Rattle.line_invariant.specs.Good.{Status, Hints, NotLeaving, Role, IsGoodNode, asking_part}
 use Rattle.op_model.proofs.Public.{eqb-self}
-use Rattle.line_invariant.proofs.Public.{rpl-first}
+use Rattle.line_invariant.proofs.Public.{lanes-departed, rpl-first}
 use Rattle.eager_model.specs.Rows.{Drain, meets, row_of, on_message}
 use Rattle.eager_model.specs.Line.{AgedLine, ages_of, after_take}
 use Rattle.eager_model.specs.Good.{IsEagerGood, IsDraining, has_words, draining_role}
 use Rattle.eager_model.proofs.SentAges.{none-sent, given_age}
 use Rattle.eager_model.proofs.DrainingTaken.{IsTakenHome, taken-home}
 use Rattle.eager_model.proofs.DrainingMeets.{by-row}
-
-pub lanes-departed : (home p : ℕ) (lane : Lanes) (status : ℕ → Status) → p ≢ home → ((a b : ℕ) (class : Class) → lane a b class ≡ expected home status a b class) →
-    (rest : List Content) → rest ≡ asking_part (status p).carrier →
-    (a b : ℕ) (class : Class) → sent home no_message (taken p home Request rest lane) a b class ≡ expected home (put_at status p (record (status p) { leaving = NotLeaving })) a b class
-lanes-departed home p lane status apart lanes rest left a b Request = grind (arith, nat_tests, lanes a b Request)
-lanes-departed home p lane status apart lanes rest left a b Reply = grind (arith, nat_tests, lanes a b Reply)
 
 node-hinted : (role : Role) (words : Words) (lists : Bool) (copy : Copy) (want : Option Want) (status : Status) → IsGoodNode role words lists copy want status → status.leaving ≡ Hints → IsGoodNode role words lists copy want (record status { leaving = NotLeaving })
 node-hinted role words lists copy want status good leaves = grind arith

@@ -9,7 +9,7 @@ use Rattle.op_model.specs.Tables.Home.{no_other}
 use Rattle.op_model.specs.Tables.Home as delayed_home
 use Rattle.op_model.specs.Tables.Remote.{on_fwd_get, is_invalidate, waits_load, waits_write}
 use Rattle.op_model.specs.Tables.Remote as delayed
-use Rattle.op_model.proofs.Public.{eqb-self}
+use Rattle.op_model.proofs.Public.{eqb-self, three_parts}
 use Rattle.line_invariant.specs.Line.{share_of}
 use Rattle.line_invariant.specs.Rows.{IsServedFor, IsPut, EndsRight}
 use Rattle.line_invariant.specs.Good.{IsGoodNode, IsGoodHeader, AskingX, Asked, ToGive, asked_role}
@@ -103,12 +103,6 @@ module _ (home : ℕ) (line : AgedLine) (settled : IsSettled home line) (from to
     served-row : IsServedFor line.line.want line.line.answered to line.line.words (delayed.row_of to home from room content (share_of line.line to)).served
     served-row = subst (λ o. IsServedFor line.line.want line.line.answered to line.line.words o.served) does-delayed (served-take home line.line settled.good from rest room to class content front)
 
-  at-home : (a b c : Bool) → (a && b && c) ≡ true → a ≡ true
-  at-home a b c e = grind arith
-
-  second : (a b c : Bool) → (a && b && c) ≡ true → b ≡ true
-  second a b c e = grind arith
-
   off-home : (a : Bool) → not a ≡ true → a ≡ false
   off-home a e = grind arith
 
@@ -118,11 +112,11 @@ module _ (home : ℕ) (line : AgedLine) (settled : IsSettled home line) (from to
         IsServedFor line.line.want line.line.answered to line.line.words (delayed.row_of to home from room content (share_of line.line to)).served →
         Row home line settled from to class rest age ages first content (delayed.row_of to home from room content (share_of line.line to))
     unfolding delayed.row_of delayed.meets
-    row-any Get front other met served = row-get home line settled from to class rest age ages first (at-home (to == home) _ _ met) front room served
+    row-any Get front other met served = row-get home line settled from to class rest age ages first (three_parts (to == home) _ _ met).0 front room served
     row-any GetX front other met served =
-        let on : (to == home) ≡ true = at-home (to == home) _ _ met in
+        let on : (to == home) ≡ true = (three_parts (to == home) _ _ met).0 in
         let there : to ≡ home = grind (arith, nat_tests) in
-        let far : (from == home) ≡ false = off-home (from == home) (second (to == home) _ _ met) in
+        let far : (from == home) ≡ false = off-home (from == home) (three_parts (to == home) _ _ met).1 in
         let apart : from ≢ home = (λ same. grind (arith, nat_tests)) in
         row-getx home line settled from to class rest age ages first on front room (other refl) (asks-for apart class (ap (λ n. line.line.lane from n class) (sym there) ∙ front)).1
     row-any (FwdGet r) front other met served = row-fwd home line settled from to class rest age ages first r front (off-home (to == home) met) (not-served r served)
@@ -133,10 +127,10 @@ module _ (home : ℕ) (line : AgedLine) (settled : IsSettled home line) (from to
     row-any Inv front other met served = row-inv home line settled from to class rest age ages first front
     row-any (Wb words) front other met served = row-wb home line settled from to class rest age ages first words front
     row-any Rpl front other met served = row-rpl home line settled from to class rest age ages first front
-    row-any (Put words) front other met served = row-put home line settled from to class rest age ages first words front (second (waits_load (line.line.want to)) _ _ met)
-    row-any (PutX words) front other met served = row-putx home line settled from to class rest age ages first words front (at-home (waits_write (line.line.want to)) _ _ met)
+    row-any (Put words) front other met served = row-put home line settled from to class rest age ages first words front (three_parts (waits_load (line.line.want to)) _ _ met).1
+    row-any (PutX words) front other met served = row-putx home line settled from to class rest age ages first words front (three_parts (waits_write (line.line.want to)) _ _ met).0
     row-any (Nak cause) front other met served = row-nak home line settled from to class rest age ages first cause front
-    row-any InvAck front other met served = absurd (let called : is_invalidate line.line.header.wait ≡ true = second (to == home) _ _ met in let calm = settled.settled in grind arith)
+    row-any InvAck front other met served = absurd (let called : is_invalidate line.line.header.wait ≡ true = (three_parts (to == home) _ _ met).1 in let calm = settled.settled in grind arith)
     row-any (ShWb words) front other met served = row-shwb home line settled from to class rest age ages first words front
     row-any FAck front other met served = row-fack home line settled from to class rest age ages first front
     row-any Nakc front other met served = row-nakc home line settled from to class rest age ages first front
@@ -180,10 +174,10 @@ module _ (home : ℕ) (line : AgedLine) (settled : IsSettled home line) (from to
           met = meets-delayed GetX getx
 
           there : to ≡ home
-          there = let on : (to == home) ≡ true = at-home (to == home) _ _ met in grind (arith, nat_tests)
+          there = let on : (to == home) ≡ true = (three_parts (to == home) _ _ met).0 in grind (arith, nat_tests)
 
           apart : from ≢ home
-          apart same = let far : (from == home) ≡ false = off-home (from == home) (second (to == home) _ _ met) in grind (arith, nat_tests)
+          apart same = let far : (from == home) ≡ false = off-home (from == home) (three_parts (to == home) _ _ met).1 in grind (arith, nat_tests)
 
           given : (class : Class) → line.line.lane from home class ≡ GetX ∷ rest → line.lane_age from home class ≡ age ∷ ages → IsEagerGood home (after_take home from home class GetX rest age ages room line)
           given Request f g = good-give home line from apart rest age ages room f g shared (record { newest = newest; stands = inl settled })

@@ -4,10 +4,11 @@ use Rattle.op_model.specs.declared.operations.Op.{Op}
 use Rattle.op_model.specs.Messages.{Content}
 use Rattle.op_model.specs.Lines.{Header, LineShare, Outcome, Room, is_pending}
 use Rattle.op_model.specs.Tables.Home.{no_other}
+use Rattle.op_model.proofs.Public.{called-pends}
 use Rattle.lane_bounds.proofs.Public.{IsAllowed, begin-allowed, message-allowed}
 use Rattle.eager_model.specs.Rows.{begin_op, on_message}
 use Rattle.eager_part.proofs.Beginnings.{each-beginning}
-use Rattle.eager_part.proofs.Rows.{called-pends, each-row, shared-parts}
+use Rattle.eager_part.proofs.Rows.{each-row, shared-parts}
 
 module _ (room : Room) (unlinked : room.linked ≡ false) (s : LineShare) where
   abbrev pub Allowed : Outcome → Type 0

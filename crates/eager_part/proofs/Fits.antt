@@ -1,5 +1,5 @@
 -- What a row of an eager node leaves and sends fits the machine. The nodes that the home calls in are listed, and neither the home nor a node that was granted the line is.
-use Rattle.std.proofs.Common.{◌≡◌, ◌≢◌, ℕ, ◌+◌, ◌<◌, ◌≤◌, Bool, true, false, nat_le, length, arith, ap, sym, ◌∙◌, subst, Ok}
+use Rattle.std.proofs.Common.{◌≡◌, ◌≢◌, ℕ, ◌+◌, ◌<◌, ◌≤◌, Bool, true, false, nat_le, length, arith, sym, ◌∙◌, subst, Ok}
 use Rattle.std.proofs.lemmas.Bool.Decides.{nat_tests}
 use Rattle.line_map.specs.Sizes.{Sizes}
 use Rattle.op_model.specs.declared.operations.Op.{Op}
@@ -10,7 +10,7 @@ use Rattle.op_model.specs.Operations.{Words}
 use Rattle.op_model.specs.Tables.Home.{on_wb}
 use Rattle.line_invariant.proofs.Public.{if-either}
 use Rattle.message_range.specs.Fitting.{IsContentForOther}
-use Rattle.message_range.proofs.Public.{IsFitting, IsWide, IsWideLine, begin-fits, below-others}
+use Rattle.message_range.proofs.Public.{IsFitting, IsWide, IsWideLine, apart-listed, begin-fits, below-others}
 use Rattle.message_range.proofs.Public.{length-listed, listed-sends, message-fits, none-few, one-few}
 use Rattle.message_range.proofs.Public.{op-width}
 use Rattle.eager_model.specs.Rows.{begin_op, give_and_drain, on_inv_ack, on_message, write_and_drain}
@@ -18,9 +18,6 @@ use Rattle.eager_part.proofs.Beginnings.{each-beginning}
 use Rattle.eager_part.proofs.Kept.{calm-own}
 use Rattle.eager_part.proofs.Lines.{IsLine, home-unlisted}
 use Rattle.eager_part.proofs.Rows.{each-row}
-
-apart-listed : (list : Nodes) (a b : ℕ) → listed list a ≡ true → listed list b ≡ false → a ≢ b
-apart-listed list a b e f same = let d : true ≡ false = sym e ∙ ap (listed list) same ∙ f in cc
 
 module _ (sizes : Sizes) (several : 2 ≤ sizes.nodes) (Asked : Type 0) (me home : ℕ) (me_in : me < sizes.nodes) (room : Room) (s : LineShare) (wide : IsWideLine sizes s) (within : (q : ℕ) → listed s.header.list q ≡ true → q < sizes.nodes) (line : me ≡ home → IsLine home s) where
   abbrev Fits : Outcome → Type 0

@@ -15,7 +15,7 @@ use Rattle.op_model.specs.Shares.{Share, header_in, header_of, is_set_empty, lin
 use Rattle.op_model.specs.Tables.Home.{requester_of}
 use Rattle.op_model.specs.Tables.Remote.{asks_well, gets_elsewhere, getxs_elsewhere, is_forward, is_forward_get, is_forward_getx, is_invalidate, waits_load, waits_write}
 use Rattle.op_model.specs.Tables.Remote as delayed
-use Rattle.op_model.proofs.Public.{three_parts}
+use Rattle.op_model.proofs.Public.{forward-get, forward-getx, three_parts}
 use Rattle.node_range.specs.Range.{IsWaitIn}
 use Rattle.own_part.proofs.Public.{at-home, gets, getxs, idle-is}
 use Rattle.message_range.specs.Fitting.{IsShareOf}
@@ -46,19 +46,6 @@ forwarded home nodes (ForwardGet r) s is in_it e f =
 forwarded home nodes (ForwardGetX r) s is in_it e f =
     let w = subst (λ k. IsOwnWait home k s) e (as-delayed home s.header.wait s (ap is_invalidate e) is).waiting in
     record { pending = ap (λ k. not (is_idle k)) e; acks = w.0; requester = subst (λ k. k < nodes) (sym (ap requester_of e)) (subst (IsWaitIn nodes) e in_it) }
-
--- a forward for one node is a forward
-for-load : (home : ℕ) (wait : Wait) → is_forward_get home wait ≡ true → is_forward wait ≡ true
-for-load home Idle e = absurd (cc)
-for-load home (Invalidate g) e = absurd (cc)
-for-load home (ForwardGet r) e = refl
-for-load home (ForwardGetX r) e = absurd (cc)
-
-for-write : (home : ℕ) (wait : Wait) → is_forward_getx home wait ≡ true → is_forward wait ≡ true
-for-write home Idle e = absurd (cc)
-for-write home (Invalidate g) e = absurd (cc)
-for-write home (ForwardGet r) e = absurd (cc)
-for-write home (ForwardGetX r) e = refl
 
 module _ (sizes : Sizes) (node : ℕ) (program : List Op) (share : Share) (part : IsEagerPart sizes node program share) (fits : IsShareOf sizes share) (line : ℕ) where
   abbrev h : Header
@@ -140,13 +127,13 @@ module _ (sizes : Sizes) (node : ℕ) (program : List Op) (share : Share) (part 
     unfolding meets_row meets delayed.meets header_in
     put-met words e =
         let m = three_parts (waits_load (want_on sizes share.want line)) (is_set_empty sizes share line) (not (node == at) || is_forward_get at h.wait) e in
-        (m.0, m.1, λ own. for-load at h.wait (at-home (node == at) (is_forward_get at h.wait) (eq-eqb node at (sym own)) m.2))
+        (m.0, m.1, λ own. forward-get at h.wait (at-home (node == at) (is_forward_get at h.wait) (eq-eqb node at (sym own)) m.2))
 
     pub putx-met : (words : Words) → meets_row sizes node share src (msg.PutX line words) ≡ true → (waits_write (want_on sizes share.want line) ≡ true) × (is_set_empty sizes share line ≡ true) × (at ≡ node → is_forward h.wait ≡ true)
     unfolding meets_row meets delayed.meets header_in
     putx-met words e =
         let m = three_parts (waits_write (want_on sizes share.want line)) (is_set_empty sizes share line) (not (node == at) || is_forward_getx at h.wait) e in
-        (m.0, m.1, λ own. for-write at h.wait (at-home (node == at) (is_forward_getx at h.wait) (eq-eqb node at (sym own)) m.2))
+        (m.0, m.1, λ own. forward-getx at h.wait (at-home (node == at) (is_forward_getx at h.wait) (eq-eqb node at (sym own)) m.2))
 
     pub nak-met : (cause : NakCause) → meets_row sizes node share src (msg.Nak line cause) ≡ true → is_outstanding (want_on sizes share.want line) ≡ true
     unfolding meets_row meets delayed.meets header_in

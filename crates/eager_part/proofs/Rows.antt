@@ -13,16 +13,10 @@ use Rattle.op_model.specs.Tables.Home.{lacks_link, no_other, on_fack, on_get, on
 use Rattle.op_model.specs.Tables.Home as delayed_home
 use Rattle.op_model.specs.Tables.Remote.{asks_well, gets_elsewhere, getxs_elsewhere, is_forward, is_forward_get, is_forward_getx, is_invalidate, on_fwd_get, on_fwd_getx, on_inv, on_nak, on_put, on_putx, waits_load, waits_write}
 use Rattle.op_model.specs.Tables.Remote as delayed
-use Rattle.op_model.proofs.Public.{three_parts}
+use Rattle.op_model.proofs.Public.{called-pends, three_parts}
 use Rattle.line_invariant.proofs.Public.{if-either}
 use Rattle.own_part.proofs.Public.{at-home}
 use Rattle.eager_model.specs.Rows.{asks_shared, give_and_drain, meets, on_getx, on_inv_ack, on_message, row_of}
-
-pub called-pends : (wait : Wait) → is_invalidate wait ≡ true → not (is_idle wait) ≡ true
-called-pends Idle e = absurd (cc)
-called-pends (Invalidate g) e = refl
-called-pends (ForwardGet r) e = absurd (cc)
-called-pends (ForwardGetX r) e = absurd (cc)
 
 -- what is told by a GetX that calls others: another node is listed, and one more line may be pending
 pub shared-parts : (p d o f : Bool) → (not p && not d && not o && not f) ≡ true → (o ≡ false) × (f ≡ false)

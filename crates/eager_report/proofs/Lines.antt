@@ -5,6 +5,7 @@ use Rattle.std.specs.List.Sorted.{IsSortedBy, IsStableBy}
 use Rattle.std.proofs.lemmas.Bool.{eqb-true}
 use Rattle.std.proofs.lemmas.Bool.Decides.{nat_tests}
 use Rattle.std.proofs.lemmas.List.Elements.{filter-append}
+use Rattle.op_model.proofs.Public.{never_passes}
 use Rattle.dir_report.proofs.Public.{flat_map-range_more}
 use Rattle.eager_model.specs.History.{put_all, in_age_order}
 use Rattle.eager_model.specs.Runs.{AgedEntry}
@@ -30,10 +31,6 @@ none-passes : (p : AgedEntry → Bool) (xs : List AgedEntry) → Each (λ x. p x
 none-passes p [] each = refl
 none-passes p (x ∷ xs) each = ap (λ b. cond b (x ∷ filter p xs) (filter p xs)) each.0 ∙ none-passes p xs each.1
 
-failing : (b : Bool) → (b ≡ true → ⊥) → b ≡ false
-failing true never = absurd (never refl)
-failing false never = refl
-
 -- entries of one age stay in their order
 of-one-age : (age : ℕ) (history xs : List AgedEntry) → Each (λ x. x.age ≡ age) history → Each (λ x. x.age ≡ age) xs → put_all history xs ≡ history ++ xs
 of-one-age age history [] old each = sym (append-nil history)
@@ -51,7 +48,7 @@ module _ (line : AgedEntry → ℕ) where
   in_line xs n = in_age_order (filter (λ x. line x == n) xs)
 
   apart : (x y : AgedEntry) → (line y ≡ line x → ⊥) → tie line x y ≡ false
-  apart x y differ = failing (tie line x y) (λ both. differ (tied-lines line x y both))
+  apart x y differ = never_passes (tie line x y) (λ both. differ (tied-lines line x y both))
 
   all-on : (xs : List AgedEntry) (n : ℕ) → Each (λ x. line x ≡ n) (in_line xs n)
   all-on xs n = each-put-all (λ x. line x ≡ n) [] (filter (is_on n) xs) tt (each-passes (λ x. line x ≡ n) (is_on n) (λ x is. eqb-true (line x) n is) xs)

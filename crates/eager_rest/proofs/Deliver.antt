@@ -1,18 +1,17 @@
 -- A lane that isn't empty can be taken from, and no line is ever called in for it. Delivery ends, since each delivery step lowers the weight.
-use Rattle.std.proofs.Common.{◌≡◌, ◌≢◌, ℕ, zero, suc, ◌<◌, ◌≤◌, Bool, false, cond, ◌&&◌, not, List, [], ◌∷◌, refl, arith, ap, sym, ◌∙◌, subst, Option, Some, None, Ok, option_map}
+use Rattle.std.proofs.Common.{◌≡◌, ◌≢◌, ℕ, zero, suc, ◌<◌, ◌≤◌, cond, List, [], ◌∷◌, refl, arith, ap, sym, ◌∙◌, subst, Option, Some, None, Ok, option_map}
 use Rattle.line_map.specs.Sizes.{Sizes}
 use Rattle.op_model.specs.declared.events.Class.{Class}
 use Rattle.op_model.specs.declared.events.Event.{Event}
 use Rattle.op_model.specs.declared.events.Event.TheVariants.{Take}
 use Rattle.op_model.specs.declared.messages.Msg.{Msg}
-use Rattle.op_model.specs.Events.Node.{TakeFrom, asks_victim, by_row, is_get, meets_row}
+use Rattle.op_model.specs.Events.Node.{TakeFrom, by_row}
 use Rattle.op_model.specs.Events.Step.{Programs, after, and_then, one_off}
-use Rattle.op_model.specs.Messages.{msg_content, msg_line}
+use Rattle.op_model.specs.Messages.{msg_line}
 use Rattle.op_model.specs.Run.Schedules.{Lane, delivery, first_busy, least_victim, victim_for}
 use Rattle.op_model.specs.Run.Weight.{IsClear, weight}
-use Rattle.op_model.specs.Shares.{Share, State, Trace, Unlinked, header_of, program, room_of}
-use Rattle.op_model.specs.Tables.Home.{wants_victim}
-use Rattle.op_model.specs.Lines.{is_pending}
+use Rattle.op_model.specs.Shares.{State, Trace, Unlinked, program}
+use Rattle.op_model.proofs.Public.{never-asks}
 use Rattle.rest_laws.proofs.Public.{first-none, first-some}
 use Rattle.eager_model.specs.Node.{aged, local, taking}
 use Rattle.eager_model.specs.Runs.{Past, past_after, run, run_by}
@@ -20,14 +19,6 @@ use Rattle.eager_model.specs.Step.{AgedDone, Ages, and_answer, answer, effect, f
 use Rattle.eager_part.proofs.Public.{AreOwn, each-taken, own-event, own-run}
 use Rattle.eager_rest.specs.Delivery.{Delivery, IsDelivered}
 use Rattle.eager_rest.proofs.Falls.{falls}
-
--- no list holds a link, so that no message asks for a victim
-never-asks : (sizes : Sizes) (me : ℕ) (share : Share) (src : ℕ) (m : Msg) → asks_victim Unlinked sizes me share src m ≡ false
-unfolding wants_victim
-never-asks sizes me share src m = none (meets_row sizes me share src m) (is_get (msg_content m)) (is_pending (header_of sizes share (msg_line m))) (room_of Unlinked sizes share).link_pending (room_of Unlinked sizes share).full
-  where
-    none : (a b p l f : Bool) → (a && b && (not p && false && not l && not f)) ≡ false
-    none a b p l f = grind arith
 
 pub delivery-takes : (sizes : Sizes) (state : State) (lane : Lane) → delivery Unlinked sizes state lane ≡ Take lane.src lane.dst lane.class None
 delivery-takes sizes state lane = ap (Take lane.src lane.dst lane.class) (go (state.lane lane.src lane.dst lane.class))

@@ -8,7 +8,8 @@ use Rattle.line_map.specs.Sizes.{Sizes}
 use Rattle.op_model.specs.Lines.{Copy, Absent, Shared, Exclusive, Header, is_pending}
 use Rattle.op_model.specs.Shares.{Share, Copies, Headers, copy_in, header_in, put_copy, pending_among, is_set_free, is_set_taken}
 use Rattle.op_model.specs.Run.Runs.{start_share}
-use Rattle.row_examples.proofs.Public.{get-none, get-put, maps}
+use Rattle.op_model.proofs.Public.{get-put}
+use Rattle.row_examples.proofs.Public.{get-none, maps, over}
 use Rattle.row_examples.specs.Types.{Want}
 use Rattle.eager_run.specs.Worked.{worked}
 
@@ -61,17 +62,14 @@ entry_of copy = Some copy
 tied : {A : Type 0} (q k : ℕ) (a b : A) → cond (eq_by_cmp nat_cmp q k) a b ≡ cond (q == k) a b
 tied q k a b = ap (λ (same : Bool). cond same a b) (unsigned_tied q k)
 
-get-at : {X : Type 0} (m : fin.FinMap nat_cmp X) (k : ℕ) (v : X) (q : ℕ) → fin.get (fin.insert m k v) q ≡ cond (q == k) (Some v) (fin.get m q)
-get-at m k v q = get-put m k v q ∙ tied q k (Some v) (fin.get m q)
-
 get-without : {X : Type 0} (m : fin.FinMap nat_cmp X) (k q : ℕ) → fin.get (fin.remove m k) q ≡ cond (q == k) None (fin.get m q)
 get-without m k q = fin.get-remove nat_cmp_total m k q ∙ tied q k None (fin.get m q)
 
 get-put_copy : (copies : Copies) (line : ℕ) (copy : Copy) (q : ℕ) → fin.get (put_copy copies line copy) q ≡ cond (q == line) (entry_of copy) (fin.get copies q)
 unfolding entry_of
 get-put_copy copies line Absent q = get-without copies line q
-get-put_copy copies line (Shared words) q = get-at copies line (Shared words) q
-get-put_copy copies line (Exclusive words) q = get-at copies line (Exclusive words) q
+get-put_copy copies line (Shared words) q = get-put copies line (Shared words) q
+get-put_copy copies line (Exclusive words) q = get-put copies line (Exclusive words) q
 
 unset : {A : Type 0} (q k : ℕ) (same : Bool) (m : Option A) → (q == k) ≡ same → (q ≡ k → m ≡ None) → m ≡ cond same None m
 unset q k true m e none = none (grind (arith, nat_tests))
@@ -80,8 +78,8 @@ unset q k false m e none = refl
 get-some : (copies : Copies) (line : ℕ) (copy : Copy) (q : ℕ) → fin.get copies line ≡ None → fin.get (some_copy copies line copy) q ≡ cond (q == line) (entry_of copy) (fin.get copies q)
 unfolding entry_of
 get-some copies line Absent q none = unset q line (q == line) (fin.get copies q) refl (λ same. ap (fin.get copies) same ∙ none)
-get-some copies line (Shared words) q none = get-at copies line (Shared words) q
-get-some copies line (Exclusive words) q none = get-at copies line (Exclusive words) q
+get-some copies line (Shared words) q none = get-put copies line (Shared words) q
+get-some copies line (Exclusive words) q none = get-put copies line (Exclusive words) q
 
 get-y : (y : Copy) (q : ℕ) → fin.get (some_copy fin.empty 1 y) q ≡ cond (q == 1) (entry_of y) None
 get-y y q = get-some fin.empty 1 y q (get-none 1) ∙ ap (cond (q == 1) (entry_of y)) (get-none q)
@@ -102,10 +100,6 @@ copy-on line_x own other = ap (λ (o : Option Copy). unwrap_or o Absent) (get-co
 copy-on line_y own other = ap (λ (o : Option Copy). unwrap_or o Absent) (get-copies other own 1) ∙ back own
 
 -- a copy that is put is that of its line, and the other one stays
-over : {A : Type 0} (same : Bool) (new old other : A) → cond same new (cond same old other) ≡ cond same new other
-over true new old other = refl
-over false new old other = refl
-
 under : {A : Type 0} (q : ℕ) (is_x is_y : Bool) (x new old none : A) → (q == 0) ≡ is_x → (q == 1) ≡ is_y → cond is_y new (cond is_x x (cond is_y old none)) ≡ cond is_x x (cond is_y new none)
 under q true true x new old none e f = let wrong : ◌≡◌ {A = ℕ} 0 1 = grind (arith, nat_tests) in absurd (omega arith)
 under q true false x new old none e f = refl
@@ -160,15 +154,15 @@ header-on line_y own other = simp maps refl
 
 get-headers : (x y : Header) (q : ℕ) → fin.get (headers_of x y) q ≡ cond (q == 0) (Some x) (cond (q == 1) (Some y) None)
 unfolding headers_of
-get-headers x y q = get-at _ 0 x q ∙ ap (cond (q == 0) (Some x)) (get-at fin.empty 1 y q ∙ ap (cond (q == 1) (Some y)) (get-none q))
+get-headers x y q = get-put _ 0 x q ∙ ap (cond (q == 0) (Some x)) (get-put fin.empty 1 y q ∙ ap (cond (q == 1) (Some y)) (get-none q))
 
 pub put-header : (line : Line) (own other new : Header) → fin.insert (headers_on line own other) (number line) new ≡ headers_on line new other
 put-header line_x own other new =
     fin.same_map nat_cmp_total fin.nat_cmp-IsAntisymmetric _ _ (λ q.
-    get-at (headers_of own other) 0 new q ∙ ap (cond (q == 0) (Some new)) (get-headers own other q) ∙ over (q == 0) (Some new) (Some own) _ ∙ sym (get-headers new other q))
+    get-put (headers_of own other) 0 new q ∙ ap (cond (q == 0) (Some new)) (get-headers own other q) ∙ over (q == 0) (Some new) (Some own) _ ∙ sym (get-headers new other q))
 put-header line_y own other new =
     fin.same_map nat_cmp_total fin.nat_cmp-IsAntisymmetric _ _ (λ q.
-    get-at (headers_of other own) 1 new q ∙ ap (cond (q == 1) (Some new)) (get-headers other own q)
+    get-put (headers_of other own) 1 new q ∙ ap (cond (q == 1) (Some new)) (get-headers other own q)
     ∙ under q (q == 0) (q == 1) (Some other) (Some new) (Some own) None refl refl ∙ sym (get-headers other new q))
 
 entries-headers : (x y : Header) → fin.entries (headers_of x y) ≡ (0, x) ∷ (1, y) ∷ []

@@ -1,23 +1,22 @@
 -- Room is made for the next operation at rest: the line that stands in the cache set leaves, its message is taken, and the machine is at rest as before, but for that copy.
-use Rattle.std.proofs.Common.{◌≡◌, ◌≢◌, ℕ, suc, ◌<◌, ◌⊎◌, inl, inr, Bool, true, false, not, nat_lt, ◌==◌, ◌&&◌, List, [], ◌∷◌, refl, arith, ap, sym, ◌∙◌, subst, None, Some, Ok}
+use Rattle.std.proofs.Common.{◌≡◌, ◌≢◌, ℕ, suc, ◌<◌, ◌⊎◌, inl, inr, true, false, not, ◌==◌, ◌&&◌, List, [], ◌∷◌, refl, arith, ap, sym, ◌∙◌, subst, None, Some, Ok}
 use Rattle.std.proofs.lemmas.Bool.{eqb-false}
-use Rattle.std.proofs.lemmas.Bool.Decides.{nat_tests}
 use Rattle.line_map.specs.Sizes.{Sizes, home_of}
 use Rattle.op_model.specs.declared.events.Class.TheVariants.{Request}
 use Rattle.op_model.specs.declared.events.Event.TheVariants.{Evict}
 use Rattle.op_model.specs.declared.events.EvictKind.{EvictKind}
 use Rattle.op_model.specs.Events.Node.{departs}
-use Rattle.op_model.specs.Events.Step.{departures, has_room}
+use Rattle.op_model.specs.Events.Step.{has_room}
 use Rattle.op_model.specs.Lines.{Absent, LineShare, Outcome, is_empty}
 use Rattle.op_model.specs.Messages.{Content, Rpl, Wb, message, msg_class}
 use Rattle.op_model.specs.Operations.{Words}
 use Rattle.op_model.specs.Run.Rest.{IsAtRest}
 use Rattle.op_model.specs.Run.Schedules.{eviction_of, serial_next}
-use Rattle.op_model.specs.Shares.{Lanes, Share, State, Trace, Unlinked, copy_of, line_share, program, put_share, want_on}
+use Rattle.op_model.specs.Shares.{Lanes, State, Trace, Unlinked, copy_of, line_share, program, want_on}
 use Rattle.op_model.specs.Tables.Processor.{evict}
-use Rattle.one_history.proofs.Public.{copy-other, copy-same, put-stays}
+use Rattle.one_history.proofs.Public.{put-stays}
 use Rattle.lane_bounds.proofs.Public.{after_row_of, sent_of, taken_of}
-use Rattle.schedule_laws.proofs.Public.{AreEmpty, IsEviction, IsUsual, OnlyOne, OnlySent, at-share, evicts}
+use Rattle.schedule_laws.proofs.Public.{AreEmpty, IsEviction, IsUsual, OnlyOne, OnlySent, at-share, copies-after, evicts, gone-after, open-gate, places-after}
 use Rattle.schedule_laws.proofs.Public.{none-sent, one-sent, one-taken, only-sent, settles, still, still_sent}
 use Rattle.eager_model.specs.Runs.{Past, past_after}
 use Rattle.eager_part.proofs.Public.{copy-in, ranged-run}
@@ -58,10 +57,7 @@ module _ (trace : Trace) (usual : IsUsual trace) (p : ℕ) (first : Past) (reach
 
   -- with empty lanes the gate is open
   gate : (departs (p == home) kind && not (has_room sizes (first.state.lane p home Request))) ≡ false
-  gate = open_gate (departs (p == home) kind) (departures (first.state.lane p home Request)) sizes.evicts (ap departures (rests.lanes p home Request)) usual.evicts
-    where
-      open_gate : (a : Bool) (n limit : ℕ) → n ≡ 0 → 0 < limit → (a && not (nat_lt n limit)) ≡ false
-      open_gate a n limit e some = grind (arith, nat_tests)
+  gate = open-gate sizes (first.state.lane p home Request) (departs (p == home) kind) (rests.lanes p home Request) usual.evicts
 
   -- what comes after it, from rest
   abbrev pub Later : ℕ → Type 0
@@ -70,22 +66,7 @@ module _ (trace : Trace) (usual : IsUsual trace) (p : ℕ) (first : Past) (reach
       IsRound trace usual p places end most
 
   module _ (chosen : serial_next Unlinked sizes (program trace) trace.ops first.state ≡ Some (Evict p g kind)) (most : ℕ) (later : Later most) (outcome : Outcome) (does : evict p home kind share ≡ Ok outcome) (gone : outcome.share.copy ≡ Absent) (undone : outcome.done ≡ false) where
-    abbrev own : Share
-    own = put_share sizes (p == home) g outcome.done outcome.share (first.state.share p)
-
     module _ (then : Past) (at : then.state ≡ after_row_of sizes p g outcome first.state) where
-      share-then : (P : Share → Type 0) (n : ℕ) → (n ≢ p → P (first.state.share n)) → (n ≡ p → P own) → P (then.state.share n)
-      share-then P n was is = subst (λ (s : State). P (s.share n)) (sym at) (at-share sizes first.state first.state.lane p g outcome P n was is)
-
-      places-then : (n : ℕ) → (then.state.share n).place ≡ places n
-      places-then n = share-then (λ s. s.place ≡ places n) n (λ _. refl) (λ same. put-stays sizes (p == home) g outcome.done outcome.share (first.state.share p) undone ∙ ap places (sym same))
-
-      copies-then : (x : ℕ) → x ≢ g → copy_of (then.state.share p) x ≡ copy_of (first.state.share p) x
-      copies-then x other = share-then (λ s. copy_of s x ≡ copy_of (first.state.share p) x) p (λ far. absurd (far refl)) (λ _. copy-other sizes (p == home) g outcome.done outcome.share (first.state.share p) x other)
-
-      gone-then : copy_of (then.state.share p) g ≡ Absent
-      gone-then = share-then (λ s. copy_of s g ≡ Absent) p (λ far. absurd (far refl)) (λ _. copy-same sizes (p == home) g outcome.done outcome.share (first.state.share p) ∙ gone)
-
       lanes-then : OnlySent p g outcome.sends then.state.lane
       lanes-then = subst (λ (s : State). OnlySent p g outcome.sends s.lane) (sym at) (only-sent p g outcome.sends first.state.lane rests.lanes)
 
@@ -102,7 +83,7 @@ module _ (trace : Trace) (usual : IsUsual trace) (p : ℕ) (first : Past) (reach
     evicted-home : outcome.sends ≡ [] → IsRound trace usual p places first (suc most)
     evicted-home silent =
         evicted most (λ then reached_then at.
-        later then reached_then (rested then reached_then (none-sent p g then.state.lane (subst (λ l. OnlySent p g l then.state.lane) silent (lanes-then then at)))) (places-then then at) (copies-then then at) (gone-then then at))
+        later then reached_then (rested then reached_then (none-sent p g then.state.lane (subst (λ l. OnlySent p g l then.state.lane) silent (lanes-then then at)))) (places-after sizes first.state p g outcome then.state at undone) (copies-after sizes first.state p g outcome then.state at) (gone-after sizes first.state p g outcome then.state at gone))
 
     -- elsewhere one message goes to the home
     module _ (content : Content) (sends : outcome.sends ≡ (home, content) ∷ []) (kinds : settles content ≡ true) (one : still content ≡ 1) (apart : p ≢ home) (then : Past) (reached_then : IsReached trace then) (at : then.state ≡ after_row_of sizes p g outcome first.state) where
@@ -131,10 +112,10 @@ module _ (trace : Trace) (usual : IsUsual trace) (p : ℕ) (first : Past) (reach
           let empty : AreEmpty last.state.lane = subst (λ (s : State). AreEmpty s.lane) (sym is) (none-sent home g _ (subst (λ x. OnlySent home g x (sent_of home g row.sends taken)) silent (only-sent home g row.sends taken (one-taken p home (message g content) then.state.lane single)))) in
           let mine = share-away sizes then.state last.state taken home g row is p apart in
           later last reached_last (rested last reached_last empty)
-          (λ n. ap (λ (s : State). (s.share n).place) is ∙ at-share sizes then.state taken home g row (λ s. s.place ≡ places n) n (λ _. places-then then at n)
-          (λ near. put-stays sizes (home == home_of sizes g) g row.done row.share (then.state.share home) (settling.unwanted idle).1 ∙ ap (λ k. (then.state.share k).place) (sym near) ∙ places-then then at n))
-          (λ x other. ap (λ s. copy_of s x) mine ∙ copies-then then at x other)
-          (ap (λ s. copy_of s g) mine ∙ gone-then then at))
+          (λ n. ap (λ (s : State). (s.share n).place) is ∙ at-share sizes then.state taken home g row (λ s. s.place ≡ places n) n (λ _. places-after sizes first.state p g outcome then.state at undone n)
+          (λ near. put-stays sizes (home == home_of sizes g) g row.done row.share (then.state.share home) (settling.unwanted idle).1 ∙ ap (λ k. (then.state.share k).place) (sym near) ∙ places-after sizes first.state p g outcome then.state at undone n))
+          (λ x other. ap (λ s. copy_of s x) mine ∙ copies-after sizes first.state p g outcome then.state at x other)
+          (ap (λ s. copy_of s g) mine ∙ gone-after sizes first.state p g outcome then.state at gone))
 
     evicted-away : (content : Content) → outcome.sends ≡ (home, content) ∷ [] → settles content ≡ true → still content ≡ 1 → p ≢ home → IsRound trace usual p places first (suc (suc most))
     evicted-away content sends kinds one apart = evicted (suc most) (left-round content sends kinds one apart)

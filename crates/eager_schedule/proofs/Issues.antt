@@ -14,13 +14,13 @@ use Rattle.op_model.specs.Shares.{State, Trace, Unlinked, conflicts, copy_of, he
 use Rattle.op_model.specs.Tables.Processor.{ask, serves}
 use Rattle.lane_bounds.proofs.Public.{after_row_of}
 use Rattle.node_range.proofs.Public.{next-in}
-use Rattle.schedule_laws.proofs.Public.{GoesOn, IsBegunAs, IsTracked, IsUsual, OnlyOne, OnlySent, ask-row}
+use Rattle.schedule_laws.proofs.Public.{GoesOn, IsBegunAs, IsTracked, IsUsual, OnlyOne, OnlySent, ask-row, tracked-first}
 use Rattle.schedule_laws.proofs.Public.{one-sent, only-sent, serves-exclusive}
 use Rattle.eager_model.specs.Rows.{begin_op}
 use Rattle.eager_model.specs.Runs.{Past, past_after}
 use Rattle.eager_schedule.proofs.Asked.{round-get, round-getx}
 use Rattle.eager_schedule.proofs.Begins.{issue-made}
-use Rattle.eager_schedule.proofs.Moments.{idle-at, room-free, tracked-first, unlisted-at}
+use Rattle.eager_schedule.proofs.Moments.{idle-at, room-free, unlisted-at}
 use Rattle.eager_schedule.proofs.Owners.{owned}
 use Rattle.eager_schedule.proofs.Requests.{IsDoneHere, begin-away, home-row}
 use Rattle.eager_schedule.proofs.Rounds.{IsRound, round-after, round-wider}
@@ -67,7 +67,7 @@ module _ (trace : Trace) (usual : IsUsual trace) (op : Op) (first : Past) (reach
       let made = issue-made trace first p op is free missed alone outcome begins in
       round-after trace usual p places first most (Issue p) made.0 issues made.1
       (later (past_after sizes first made.0) (reached-event trace first reached (Issue p) made.0 made.1) made.2
-      (subst (IsTracked p places) (sym made.2) (tracked-first trace usual first reached rests p line outcome first.state.lane goes)))
+      (subst (IsTracked p places) (sym made.2) (tracked-first trace.sizes first.state p line outcome rests.wants first.state.lane goes)))
 
   -- at the line's home
   module _ (here : p ≡ home) where

@@ -1,13 +1,12 @@
 -- A moment at rest: no line drains, and each is as a line of the delayed core of which nothing is under way; no home has a pending line, and a processor's next operation is begun at all nodes alike.
-use Rattle.std.proofs.Common.{◌≡◌, ℕ, suc, inl, inr, false, cond, ◌==◌, refl, ap, ◌∙◌, None, is_some}
+use Rattle.std.proofs.Common.{◌≡◌, ℕ, false}
 use Rattle.line_map.specs.Sizes.{Sizes, home_of}
-use Rattle.op_model.specs.Lines.{Outcome, is_pending}
+use Rattle.op_model.specs.Lines.{is_pending}
 use Rattle.op_model.specs.Nodes.{listed}
 use Rattle.op_model.specs.Run.Rest.{IsAtRest}
-use Rattle.op_model.specs.Shares.{Lanes, Share, State, Trace, Unlinked, copy_of, header_of, pending_lines, put_share, room_of, want_after}
+use Rattle.op_model.specs.Shares.{State, Trace, Unlinked, copy_of, header_of, pending_lines, room_of}
 use Rattle.one_history.specs.Project.{project}
-use Rattle.lane_bounds.proofs.Public.{after_row_of}
-use Rattle.schedule_laws.proofs.Public.{GoesOn, IsRestLine, IsTracked, IsUnderway, IsUsual, at-share}
+use Rattle.schedule_laws.proofs.Public.{IsRestLine, IsUsual}
 use Rattle.schedule_laws.proofs.Public.{not-full, rest-line}
 use Rattle.eager_model.specs.Line.{AgedLine}
 use Rattle.eager_model.specs.Runs.{Past}
@@ -43,25 +42,3 @@ module _ (trace : Trace) (usual : IsUsual trace) (past : Past) (reached : IsReac
 
   pub room-free : (n : ℕ) → (room_of Unlinked sizes (state.share n)).full ≡ false
   room-free n = not-full sizes.pending (pending_lines (state.share n)) (rests.idle n) usual.pending
-
-  -- what a row of p leaves begun or done, while the others rest
-  pub tracked-first : (p line : ℕ) (outcome : Outcome) (lane : Lanes) → GoesOn outcome → IsTracked p (λ n. (state.share n).place) (after_row_of sizes p line outcome (record state { lane = lane }))
-  unfolding put_share
-  tracked-first p line outcome lane goes =
-      record {
-        others = λ n apart. at-share sizes state lane p line outcome (λ s. (s.want ≡ None) × (s.place ≡ (state.share n).place)) n (λ _. (rests.wants n, refl)) (λ same. absurd (apart same));
-        own = at-share sizes state lane p line outcome (IsUnderway (state.share p).place) p (λ apart. absurd (apart refl)) (λ _. mine goes);
-      }
-    where
-      row : Share
-      row = put_share sizes (p == home_of sizes line) line outcome.done outcome.share (state.share p)
-
-      want-is : row.want ≡ outcome.share.want
-      want-is = ap (λ w. want_after sizes w line outcome.share.want) (rests.wants p)
-
-      place-is : row.place ≡ cond outcome.done (suc (state.share p).place) (state.share p).place
-      place-is = refl
-
-      mine : GoesOn outcome → IsUnderway (state.share p).place row
-      mine (inl done) = inr (want-is ∙ done.1, place-is ∙ ap (λ d. cond d (suc (state.share p).place) (state.share p).place) done.0)
-      mine (inr begun) = inl (ap is_some want-is ∙ begun.1, place-is ∙ ap (λ d. cond d (suc (state.share p).place) (state.share p).place) begun.0)

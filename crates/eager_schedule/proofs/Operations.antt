@@ -1,22 +1,20 @@
 -- From rest the serial schedule completes the operation that it has come to within 2N + 8 events: a Hit, or room is made and the operation is issued.
-use Rattle.std.proofs.Common.{◌≡◌, ◌≢◌, ℕ, suc, ◌+◌, ◌*◌, Bool, true, false, not, ◌==◌, ◌||◌, inl, List, [], slice_get, refl, arith, ap, sym, ◌∙◌, subst, Option, Some, None, option_map}
-use Rattle.std.proofs.lemmas.Bool.{eqb-false, eqb-true}
-use Rattle.line_map.specs.Sizes.{AreSizes, Sizes, line_of, set_of}
+use Rattle.std.proofs.Common.{◌≡◌, ℕ, suc, ◌+◌, ◌*◌, Bool, true, false, inl, List, [], slice_get, refl, arith, ap, sym, ◌∙◌, subst, Option, Some, None, option_map}
+use Rattle.line_map.specs.Sizes.{AreSizes, Sizes, line_of}
 use Rattle.op_model.specs.declared.events.Event.{Event}
 use Rattle.op_model.specs.declared.events.Event.TheVariants.{Hit}
 use Rattle.op_model.specs.declared.operations.Op.{Op}
-use Rattle.op_model.specs.Lines.{Absent, Copy, Outcome, is_empty, is_outstanding}
+use Rattle.op_model.specs.Lines.{Outcome, is_outstanding}
 use Rattle.op_model.specs.Run.Rest.{IsAtRest}
 use Rattle.op_model.specs.Run.Schedules.{current, lane_or_next, make_room, other_in_set, processor_event, serial_next}
 use Rattle.op_model.specs.Shares.{State, Trace, Unlinked, copy_of, line_share, program, want_on}
 use Rattle.op_model.specs.Tables.Processor.{hit, serves}
-use Rattle.op_model.proofs.Public.{empty-copy}
 use Rattle.one_history.specs.Sound.{IsCached}
 use Rattle.node_range.specs.Range.{IsOfMachine}
 use Rattle.node_range.proofs.Public.{next-in}
 use Rattle.rest_laws.proofs.Public.{clear-none}
 use Rattle.schedule_laws.specs.Ends.{IsInOrder}
-use Rattle.schedule_laws.proofs.Public.{IsAlone, IsTracked, IsUsual, absent-other, none-sent, only-sent}
+use Rattle.schedule_laws.proofs.Public.{IsTracked, IsUsual, absent-other, left-alone, none-sent, only-sent, tracked-first}
 use Rattle.schedule_laws.proofs.Public.{other-none, other-some, usual}
 use Rattle.serial_steps.proofs.Public.{current-same, done-at-least, found, is-below, is-over, next-op}
 use Rattle.serial_steps.proofs.Public.{open_op}
@@ -26,7 +24,6 @@ use Rattle.eager_history.proofs.Public.{sound-run}
 use Rattle.eager_schedule.proofs.Begins.{event-hit, event-missed, hit-made}
 use Rattle.eager_schedule.proofs.Evicts.{round-evicted}
 use Rattle.eager_schedule.proofs.Issues.{issue-any}
-use Rattle.eager_schedule.proofs.Moments.{tracked-first}
 use Rattle.eager_schedule.proofs.Rounds.{IsRound, round-after, round-none, round-wider}
 use Rattle.eager_schedule.proofs.Runs.{IsReached, course-at, course-run, reached-event}
 
@@ -78,26 +75,11 @@ module _ (trace : Trace) (usual : IsUsual trace) (op : Op) where
         let none = ap (λ w. want_on sizes w line) (rests.wants p) in
         round-after trace usual p places first 0 (Hit p) made.0 chosen made.1
         (round-none trace usual p places then 0 (reached-event trace first reached (Hit p) made.0 made.1)
-        (subst (IsTracked p places) (sym made.2) (tracked-first trace usual first reached rests p line row first.state.lane (inl (refl, none))))
+        (subst (IsTracked p places) (sym made.2) (tracked-first trace.sizes first.state p line row rests.wants first.state.lane (inl (refl, none))))
         (clear-none sizes then.state (λ a b class _ _. ap (λ (s : State). s.lane a b class) made.2 ∙ none-sent p line _ (only-sent p line [] first.state.lane rests.lanes) a b class)))
 
     cached : IsCached sizes (first.state.share p)
     cached = (sound-run trace reached.0 first usual.words reached.1).cached p
-
-    kept-copy : (copy : Copy) (b : Bool) → is_empty copy ≡ false → (not (is_empty copy) || b) ≡ true
-    kept-copy copy b e = ap (λ c. not c || b) e
-
-    -- when another line of the set has left, the line stands alone in it
-    left-alone : (g : ℕ) → set_of sizes g ≡ set_of sizes line → is_empty (copy_of (first.state.share p) g) ≡ false → (end : Past) → ((x : ℕ) → x ≢ g → copy_of (end.state.share p) x ≡ copy_of (first.state.share p) x) → copy_of (end.state.share p) g ≡ Absent → IsAlone sizes (end.state.share p) line
-    left-alone g in_set has end copies gone x other same = go (x == g) refl
-      where
-        go : (c : Bool) → (x == g) ≡ c → copy_of (end.state.share p) x ≡ Absent
-        go true e = ap (copy_of (end.state.share p)) (eqb-true x g e) ∙ gone
-        go false e = copies x (eqb-false x g e) ∙ empty (is_empty (copy_of (first.state.share p) x)) refl
-          where
-            empty : (c : Bool) → is_empty (copy_of (first.state.share p) x) ≡ c → copy_of (first.state.share p) x ≡ Absent
-            empty true f = empty-copy _ f
-            empty false f = absurd (eqb-false x g e (cached x g (kept-copy _ _ f) (kept-copy _ _ has) (same ∙ sym in_set)))
 
     -- room is made, and then the operation is issued
     evict-any : serves op (copy_of (first.state.share p) line) ≡ false → (g : ℕ) → other_in_set sizes (first.state.share p) line ≡ Some g → Round first (suc (suc (2 * sizes.nodes + 6)))
@@ -109,7 +91,7 @@ module _ (trace : Trace) (usual : IsUsual trace) (op : Op) where
         (λ end reached_end rests_end same copies gone.
         same-places (λ n. (end.state.share n).place) places end (2 * sizes.nodes + 6) same
         (missed-alone end reached_end rests_end (ap (slice_get (program trace p)) (same p) ∙ is) (λ m still alike. chooses m still (λ n. alike n ∙ same n))
-        (ap (serves op) (copies line (λ e. there.1 (sym e))) ∙ missed) (absent-other sizes (end.state.share p) line (left-alone g there.0 there.2 end copies gone))))
+        (ap (serves op) (copies line (λ e. there.1 (sym e))) ∙ missed) (absent-other sizes (end.state.share p) line (left-alone sizes (first.state.share p) (end.state.share p) line g cached there.0 there.2 copies gone))))
 
     pub round-any : Round first (2 * sizes.nodes + 8)
     round-any = go (serves op (copy_of (first.state.share p) line)) refl

@@ -1,14 +1,14 @@
 -- What an operation's course comes to, put together event by event: in so many events the operation of node p at its place is completed, no other is, and the machine is at rest. What was set going settles within what is left over.
-use Rattle.std.proofs.Common.{◌≡◌, ◌≢◌, ℕ, zero, suc, ◌<◌, ◌≤◌, inl, inr, true, false, List, [], ◌∷◌, length, refl, arith, ap, sym, ◌∙◌, subst, Option, Some, None, is_some, Ok}
+use Rattle.std.proofs.Common.{◌≡◌, ◌≢◌, ℕ, zero, suc, ◌<◌, ◌≤◌, List, [], ◌∷◌, length, refl, arith, ap, subst, Option, Some, None, Ok}
 use Rattle.line_map.specs.Sizes.{Sizes, home_of}
 use Rattle.op_model.specs.declared.events.Event.{Event}
 use Rattle.op_model.specs.Events.Step.{after}
 use Rattle.op_model.specs.Messages.{msg_content, msg_line}
 use Rattle.op_model.specs.Run.Rest.{IsAtRest}
 use Rattle.op_model.specs.Run.Schedules.{Lane, current, delivery, first_busy, lane_or_next, serial_next}
-use Rattle.op_model.specs.Shares.{Share, State, Trace, Unlinked, is_set_empty, line_share, program, room_of}
+use Rattle.op_model.specs.Shares.{State, Trace, Unlinked, is_set_empty, line_share, program, room_of}
 use Rattle.rest_laws.proofs.Public.{first-none, first-some}
-use Rattle.schedule_laws.proofs.Public.{IsTracked, IsUnderway, IsUsual, Settles, under-front}
+use Rattle.schedule_laws.proofs.Public.{IsTracked, IsUsual, Settles, rested-done, under-front}
 use Rattle.eager_model.specs.Runs.{Past, past_after}
 use Rattle.eager_model.specs.Step.{AgedDone, effect, without_ages}
 use Rattle.eager_part.proofs.Public.{each-taken, own-run}
@@ -22,11 +22,6 @@ use Rattle.eager_schedule.proofs.Settling.{IsCompleting, completing-after, left_
 -- what is under way is delivered first
 pub delivers : (trace : Trace) (state : State) (lane : Lane) → first_busy trace.sizes state ≡ Some lane → serial_next Unlinked trace.sizes (program trace) trace.ops state ≡ Some (delivery Unlinked trace.sizes state lane)
 delivers trace state lane e = ap (lane_or_next Unlinked trace.sizes (program trace) state (current trace.ops state)) e
-
--- at rest an operation that was outstanding is done
-rested-done : (place : ℕ) (share : Share) → share.want ≡ None → IsUnderway place share → share.place ≡ suc place
-rested-done place share none (inl waits) = absurd (let n : false ≡ true = ap is_some (sym none) ∙ waits.0 in cc)
-rested-done place share none (inr done) = done.1
 
 module _ (trace : Trace) (usual : IsUsual trace) (p : ℕ) (places : ℕ → ℕ) where
   abbrev sizes : Sizes

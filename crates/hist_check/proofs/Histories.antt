@@ -9,7 +9,7 @@ use Rattle.op_model.specs.declared.operations.Entry.{Entry}
 use Rattle.op_model.specs.Flat.{FlatMemory, IsLegalAt, IsLegalFrom, after_entry, after_from}
 use Rattle.op_model.specs.Events.Step.{Programs}
 use Rattle.op_model.specs.Run.History.{Follows, IsNext, entries_by}
-use Rattle.one_history.proofs.Public.{by-append}
+use Rattle.one_history.proofs.Public.{by-append, follows-push}
 use Rattle.hist_check.specs.declared.fault.EntryCause.{EntryCause}
 use Rattle.hist_check.specs.declared.fault.EntryCause.TheVariants.{Foreign, Order, Differs, Value}
 use Rattle.hist_check.specs.Good.{IsGood}
@@ -31,10 +31,6 @@ legal-push flat (x ∷ xs) e legal at = (legal.0, legal-push (after_entry flat x
 legal-at : (flat : FlatMemory) (xs : List Entry) (e : Entry) (ys : List Entry) → IsLegalFrom flat (xs ++ e ∷ ys) → IsLegalAt (after_from flat xs) e
 legal-at flat [] e ys legal = legal.0
 legal-at flat (x ∷ xs) e ys legal = legal-at (after_entry flat x) xs e ys legal.1
-
-follows-push : (ops : List Op) (index at : ℕ) (xs : List Entry) (e : Entry) → at ≡ index + length xs → Follows ops index xs → IsNext at (slice_get ops at) e → Follows ops index (xs ++ e ∷ [])
-follows-push ops index at [] e is f next = let same : at ≡ index = omega arith in (subst (λ k. IsNext k (slice_get ops k) e) same next, tt)
-follows-push ops index at (x ∷ xs) e is f next = (f.0, follows-push ops (suc index) at xs e (omega arith) f.1 next)
 
 follows-at : (ops : List Op) (index at : ℕ) (xs : List Entry) (e : Entry) (ys : List Entry) → at ≡ index + length xs → Follows ops index (xs ++ e ∷ ys) → IsNext at (slice_get ops at) e
 follows-at ops index at [] e ys is f = let same : index ≡ at = omega arith in subst (λ k. IsNext k (slice_get ops k) e) same f.0

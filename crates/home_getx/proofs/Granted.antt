@@ -1,5 +1,5 @@
 -- Rows of an acknowledgement, call by call.
-use Rattle.std.proofs.Common.{◌≡◌, ℕ, suc, ◌-◌, ◌<◌, ◌≤◌, true, false, cond, not, ◌&&◌, nat_le, List, [], ◌∷◌, slice_get, Option, Some, None, refl, sym, ap, ◌∙◌, subst, arith}
+use Rattle.std.proofs.Common.{◌≡◌, ℕ, suc, ◌-◌, ◌<◌, ◌≤◌, true, false, cond, ◌&&◌, nat_le, List, [], ◌∷◌, slice_get, Option, Some, None, refl, sym, ap, ◌∙◌, subst, arith}
 use Rattle.std.proofs.lemmas.Bool.Decides.{nat_tests}
 use Rattle.std.specs.Prelude.{is_some}
 use Rattle.line_map.specs.Sizes.{all_words, line_of, home_of}
@@ -13,12 +13,12 @@ use Rattle.op_model.specs.declared.state.Wait.TheVariants.{Idle, Invalidate, For
 use Rattle.op_model.specs.Messages.{PutX}
 use Rattle.op_model.specs.Nodes.{Nodes, only, unlist, listed}
 use Rattle.op_model.specs.Operations.{Words, after_op, entry_of, is_load}
-use Rattle.op_model.specs.Lines.{Exclusive, Header, LineShare, NoService, Own, Outcome, is_idle}
+use Rattle.op_model.specs.Lines.{Exclusive, Header, LineShare, NoService, Own, Outcome}
 use Rattle.op_model.specs.Shares.{want_on, header_in, copy_in}
 use Rattle.op_model.specs.Tables.Home.{on_inv_ack, grant, grantee_of}
 use Rattle.op_model.specs.Tables.Remote.{waits_write, is_invalidate}
 use Rattle.op_model.specs.OwnPart.{IsOwnPart, IsOwnWait, IsOutstanding}
-use Rattle.op_model.specs.Shares.{line_share, copy_of, header_of, is_set_empty}
+use Rattle.op_model.specs.Shares.{copy_of}
 use Rattle.op_model.specs.Programs.{IsProgramOf}
 use Rattle.op_model.proofs.Public.{want-stays, write-outstanding}
 use Rattle.cpu_cache.specs.Effects.{effect_of, nothing, own_effect}
@@ -35,10 +35,10 @@ use Rattle.node_share.proofs.Public.{set-unserved, set-untaken, want-gone, want-
 pub last-one : (acks : ℕ) → acks ≤ 1 → acks - 1 ≡ 0
 last-one acks few = omega arith
 
-few-test : (acks : ℕ) → acks ≤ 1 → nat_le acks 1 ≡ true
+pub few-test : (acks : ℕ) → acks ≤ 1 → nat_le acks 1 ≡ true
 few-test acks few = grind (arith, nat_tests)
 
-more-test : (acks : ℕ) → 1 < acks → nat_le acks 1 ≡ false
+pub more-test : (acks : ℕ) → 1 < acks → nat_le acks 1 ≡ false
 more-test acks more = grind (arith, nat_tests)
 
 pub called : (wait : Wait) → is_invalidate wait ≡ true → wait ≡ Invalidate (grantee_of wait)
@@ -46,12 +46,6 @@ called Idle e = cc
 called (Invalidate grantee) e = refl
 called (ForwardGet r) e = cc
 called (ForwardGetX r) e = cc
-
-pub pends : (wait : Wait) → is_invalidate wait ≡ true → not (is_idle wait) ≡ true
-pends Idle e = cc
-pends (Invalidate grantee) e = refl
-pends (ForwardGet r) e = cc
-pends (ForwardGetX r) e = cc
 
 module _ {D : Type 0} (home : HomeView D) (cache : CacheView) (proc : ProcView) (src line : ℕ) (out : SendList) (own : home_of home.sizes line ≡ home.node) (held : AreCopies cache.copies) where
   abbrev h : Header

@@ -2,3 +2,4 @@
 
 pub use Rattle.lane_queues.proofs.LaneNumbers.{lane_number-lt, lane_number-one, same_lane-is}
 pub use Rattle.lane_queues.proofs.FirstAnswers.{answer_defined}
+pub use Rattle.lane_queues.proofs.RingLaneFirst.{narrowed}

@@ -51,7 +51,7 @@ first_of_marks queues counts masks are (Some lane) is = record {
     inside = below_nodes queues lane.0 lane.1 lane.2 busy
 
 -- marks that agree below 64, and with which no lane is marked outside of the machine
-narrowed : (nodes : ℕ) (marks busy : Marks) → nodes ≤ 64 → ((a b : ℕ) (k : Class) → a < 64 → b < 64 → marks a b k ≡ busy a b k) → ((a b : ℕ) (k : Class) → busy a b k ≡ true → (a < nodes) × (b < nodes)) → (answer : Option (ℕ × ℕ × Class)) →
+pub narrowed : (nodes : ℕ) (marks busy : Marks) → nodes ≤ 64 → ((a b : ℕ) (k : Class) → a < 64 → b < 64 → marks a b k ≡ busy a b k) → ((a b : ℕ) (k : Class) → busy a b k ≡ true → (a < nodes) × (b < nodes)) → (answer : Option (ℕ × ℕ × Class)) →
     AnswersFirst 64 marks answer → AnswersFirst nodes busy answer
 narrowed nodes marks busy few agree inside None quiet = λ src from dst class to.
     sym (agree src dst class (omega (arith, from, few)) (omega (arith, to, few))) ∙ quiet src (omega (arith, from, few)) dst class (omega (arith, to, few))

@@ -12,6 +12,7 @@ use Rattle.op_model.specs.Lines.{nobody_listed, Absent, Header, Room, LineShare,
 use Rattle.op_model.specs.Tables.Processor.{serves, ask, begin_op, begin_at_home, fits, evict, leave_remote}
 use Rattle.op_model.specs.Tables.Home.{on_get, on_getx, on_inv_ack, on_shwb, on_fack, on_nakc, on_wb, on_rpl, grant, grantee_of, lacks_link, no_other}
 use Rattle.op_model.specs.Tables.Remote.{on_message, row_of, meets, on_inv, on_nak, on_put, on_putx, on_fwd_get, on_fwd_getx, waits_load, waits_write, asks_well, is_forward_get, is_forward_getx}
+use Rattle.op_model.proofs.Public.{three_parts}
 use Rattle.line_invariant.specs.Rows.{wanting, with_header, with_header_ok}
 use Rattle.line_invariant.proofs.Basics.{if-either}
 
@@ -87,9 +88,6 @@ module _ (me home : ℕ) (apart : me ≢ home) (share : LineShare) (h : Header) 
       go way.Silent true = refl
       go kind false = refl
 
-first3 : (a b c : Bool) → (a && b && c) ≡ true → a ≡ true
-first3 a b c e = grind arith
-
 -- no copy comes without a want
 module _ (to home from : ℕ) (alone : Bool) (room : Room) (share : LineShare) (empty : share.copy ≡ Absent) (none : share.want ≡ None) (local : to ≡ home → share.header.local ≡ not (is_empty share.copy)) where
   abbrev Empty : Outcome → Type 0
@@ -149,15 +147,15 @@ module _ (to home from : ℕ) (alone : Bool) (room : Room) (share : LineShare) (
 
   empty-row : (content : Content) → meets to home from alone content share ≡ true → Empty (row_of to home from room content share)
   unfolding meets row_of on_inv on_wb on_nak on_shwb on_fack on_nakc
-  empty-row Get met = empty-get (unlocal (first3 (to == home) (not (from == home)) (asks_well from share.header) met))
+  empty-row Get met = empty-get (unlocal (three_parts (to == home) (not (from == home)) (asks_well from share.header) met).0)
   empty-row GetX met = empty-getx
   empty-row (FwdGet r) met = empty-fwd r
   empty-row (FwdGetX r) met = empty-fwdx r
   empty-row Inv met = ap without_shared empty
   empty-row (Wb words) met = empty
   empty-row Rpl met = empty-rpl
-  empty-row (Put words) met = absurd (no-load (first3 (waits_load share.want) alone (not (to == home) || is_forward_get home share.header.wait) met))
-  empty-row (PutX words) met = absurd (no-write (first3 (waits_write share.want) alone (not (to == home) || is_forward_getx home share.header.wait) met))
+  empty-row (Put words) met = absurd (no-load (three_parts (waits_load share.want) alone (not (to == home) || is_forward_get home share.header.wait) met).0)
+  empty-row (PutX words) met = absurd (no-write (three_parts (waits_write share.want) alone (not (to == home) || is_forward_getx home share.header.wait) met).0)
   empty-row (Nak cause) met = empty
   empty-row InvAck met = empty-ack
   empty-row (ShWb words) met = empty
@@ -231,8 +229,8 @@ module _ (to home from : ℕ) (alone : Bool) (room : Room) (share : LineShare) (
   still-row Inv met = refl
   still-row (Wb words) met = refl
   still-row Rpl met = still-rpl
-  still-row (Put words) met = absurd (never-load (first3 (waits_load share.want) alone (not (to == home) || is_forward_get home share.header.wait) met))
-  still-row (PutX words) met = absurd (never-write (first3 (waits_write share.want) alone (not (to == home) || is_forward_getx home share.header.wait) met))
+  still-row (Put words) met = absurd (never-load (three_parts (waits_load share.want) alone (not (to == home) || is_forward_get home share.header.wait) met).0)
+  still-row (PutX words) met = absurd (never-write (three_parts (waits_write share.want) alone (not (to == home) || is_forward_getx home share.header.wait) met).0)
   still-row (Nak cause) met = refl
   still-row InvAck met = still-ack
   still-row (ShWb words) met = refl

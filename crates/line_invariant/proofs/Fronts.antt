@@ -12,10 +12,10 @@ use Rattle.line_invariant.specs.Line.{Line}
 use Rattle.line_invariant.specs.Good.{Carrier, Resting, Asking, AskingX, Answered, Leaving, NotLeaving, WritesBack, Hints, Duty, Told, Acked, ToGive, Returned, Handed, Refused, IsGood, leaving_part, asking_part, told_part, reply_part, answer_part, IsCarried, IsHomeCarrier, IsAskedBy, Phase, Clean, HomeOwns, Owned, Called, Asked, SharedOut, HandedOn}
 
 -- in the lane of requests to the home
-get-first : (leaving : Leaving) (carries : Carrier) (rest : List Content) → leaving_part leaving ++ asking_part carries ≡ Get ∷ rest → (leaving ≡ NotLeaving) × (carries ≡ Asking) × (rest ≡ [])
+pub get-first : (leaving : Leaving) (carries : Carrier) (rest : List Content) → leaving_part leaving ++ asking_part carries ≡ Get ∷ rest → (leaving ≡ NotLeaving) × (carries ≡ Asking) × (rest ≡ [])
 get-first leaving carries rest e = grind arith
 
-getx-first : (leaving : Leaving) (carries : Carrier) (rest : List Content) → leaving_part leaving ++ asking_part carries ≡ GetX ∷ rest → (leaving ≡ NotLeaving) × (carries ≡ AskingX) × (rest ≡ [])
+pub getx-first : (leaving : Leaving) (carries : Carrier) (rest : List Content) → leaving_part leaving ++ asking_part carries ≡ GetX ∷ rest → (leaving ≡ NotLeaving) × (carries ≡ AskingX) × (rest ≡ [])
 getx-first leaving carries rest e = grind arith
 
 pub wb-first : (leaving : Leaving) (carries : Carrier) (words : Words) (rest : List Content) → leaving_part leaving ++ asking_part carries ≡ Wb words ∷ rest → (leaving ≡ WritesBack words) × (rest ≡ asking_part carries)
@@ -35,7 +35,7 @@ pub fwdx-first : (duty : Duty) (requester : ℕ) (rest : List Content) → told_
 fwdx-first duty requester rest e = grind arith
 
 -- an answer to an operation
-answer-first : (from : ℕ) (carries : Carrier) (content : Content) (rest : List Content) → answer_part from carries ≡ content ∷ rest → (carries ≡ Answered from content) × (rest ≡ [])
+pub answer-first : (from : ℕ) (carries : Carrier) (content : Content) (rest : List Content) → answer_part from carries ≡ content ∷ rest → (carries ≡ Answered from content) × (rest ≡ [])
 answer-first from carries content rest e = grind (arith, nat_tests)
 
 -- an acknowledgement stands behind no answer

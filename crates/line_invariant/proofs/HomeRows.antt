@@ -17,7 +17,7 @@ use Rattle.line_invariant.proofs.Fronts.{get-comes}
 use Rattle.line_invariant.proofs.Meets.{by-row, does-get}
 use Rattle.line_invariant.proofs.HomeLanes.{lanes-reply, forwarded, lanes-forward}
 use Rattle.line_invariant.proofs.HomeNodes.{node-refused, node-loaded, node-may-share, node-forward}
-use Rattle.line_invariant.proofs.Marks.{keep, gets, at-one, asks}
+use Rattle.line_invariant.proofs.Marks.{keep, gets, at-one, asks-no-put}
 use Rattle.line_invariant.proofs.Steps.{home-step, home-step-all}
 
 -- the phase, told from the header
@@ -72,7 +72,7 @@ module _ (home : ℕ) (line : Line) (good : IsGood home line) (p : ℕ) (apart :
       IsGood home (after_row home home (refuse p cause (share_of line home)) (record line { lane = taken p home Request rest line.lane }))
   good-refuse load cause empty asking stays =
       home-step home p line good apart (refuse p cause (share_of line home)) good.phase (record (good.status p) { carrier = Answered home (Nak cause) }) (taken p home Request rest line.lane)
-      (keep line.answered good.status good.answered p _ (sym (ap is_put asking ∙ asks load)))
+      (keep line.answered good.status good.answered p _ (sym (ap is_put asking ∙ asks-no-put load)))
       (lanes-reply home p line.lane good.status apart good.lanes load rest (Nak cause) refl empty asking stays)
       good.header good.local good.unlisted good.at_home
       (node-refused line.words _ (line.copy p) (line.want p) (good.status p) _ load home cause (good.nodes p apart) asking stays)
@@ -125,7 +125,7 @@ module _ (home : ℕ) (line : Line) (good : IsGood home line) (p : ℕ) (apart :
       let out : Outcome = sending (record (share_of line home) { header = record line.header { wait = cond write (ForwardGetX p) (ForwardGet p); list = cond write line.header.list (enlist line.header.list p) } }) (one_to o (cond write (FwdGetX p) (FwdGet p))) in
       rw owns
       (home-step-all home line out (Asked write p o false true) (forwarded p o write good.status) (taken p home Request rest line.lane)
-      (at-one line.answered good.status good.answered p (Forwarded write) (sym (ap is_put (asking ∙ turned write) ∙ asks (not write))))
+      (at-one line.answered good.status good.answered p (Forwarded write) (sym (ap is_put (asking ∙ turned write) ∙ asks-no-put (not write))))
       (lanes-forward home p line.lane good.status apart good.lanes write o rest empty differs header.4 asking stays off_duty)
       (refl, header.1, tt, lists write off header.2, header.3, header.4, differs)
       good.local (unlisted write)

@@ -20,7 +20,7 @@ use Rattle.line_invariant.proofs.HomeRows.{home-rests, clean-phase}
 use Rattle.line_invariant.proofs.Marks.{keep}
 use Rattle.line_invariant.proofs.Steps.{home-step}
 
-lanes-departed : (home p : ℕ) (lane : Lanes) (status : ℕ → Status) → p ≢ home → ((a b : ℕ) (class : Class) → lane a b class ≡ expected home status a b class) →
+pub lanes-departed : (home p : ℕ) (lane : Lanes) (status : ℕ → Status) → p ≢ home → ((a b : ℕ) (class : Class) → lane a b class ≡ expected home status a b class) →
     (rest : List Content) → rest ≡ asking_part (status p).carrier →
     (a b : ℕ) (class : Class) → sent home no_message (taken p home Request rest lane) a b class ≡ expected home (put_at status p (record (status p) { leaving = NotLeaving })) a b class
 lanes-departed home p lane status apart lanes rest left a b Request = grind (arith, nat_tests, lanes a b Request)

@@ -17,7 +17,7 @@ use Rattle.line_invariant.proofs.HomeRows.{clean-phase}
 use Rattle.line_invariant.proofs.LocalRows.{good-ask, good-leave-remote, good-leave-home, good-load-home, good-write-home, good-call-home, good-forward-home, good-hit-load, good-hit-write, good-hit-home, good-hit-home-load, good-call-in}
 
 -- a copy has the line's words
-node-fresh : (role : Role) (words : Words) (lists : Bool) (copy : Copy) (want : Option Want) (status : Status) (op : Op) → IsGoodNode role words lists copy want status → serves op copy ≡ true → words_of copy ≡ words
+pub node-fresh : (role : Role) (words : Words) (lists : Bool) (copy : Copy) (want : Option Want) (status : Status) (op : Op) → IsGoodNode role words lists copy want status → serves op copy ≡ true → words_of copy ≡ words
 node-fresh role words lists copy want status op good serve = grind arith
 
 home-fresh : (home : ℕ) (phase : Phase) (words : Words) (header : Header) (copy : Copy) (op : Op) → IsGoodHeader home phase words header copy → serves op copy ≡ true → words_of copy ≡ words

@@ -5,9 +5,9 @@ use Rattle.std.proofs.lemmas.Bool.Decides.{nat_tests}
 use Rattle.op_model.specs.Events.Step.{put_at}
 use Rattle.line_invariant.specs.Good.{Status, Carrier, Asking, AskingX, is_put}
 
-pub asks : (load : Bool) → is_put (cond load Asking AskingX) ≡ false
-asks true = refl
-asks false = refl
+pub asks-no-put : (load : Bool) → is_put (cond load Asking AskingX) ≡ false
+asks-no-put true = refl
+asks-no-put false = refl
 
 module _ (answered : ℕ → Bool) (status : ℕ → Status) (good : (node : ℕ) → answered node ≡ is_put (status node).carrier) where
   -- one carrier changes, and neither is a Put

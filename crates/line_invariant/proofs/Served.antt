@@ -10,7 +10,7 @@ use Rattle.op_model.specs.Messages.{Content, Get, GetX, FwdGet, FwdGetX, Inv, Wb
 use Rattle.op_model.specs.Lines.{Copy, Absent, Exclusive, Header, Room, LineShare, Outcome, NoService, is_exclusive, is_empty, is_idle, is_pending, words_of}
 use Rattle.op_model.specs.Tables.Home.{on_get, on_getx, on_inv_ack, on_shwb, on_fack, on_nakc, on_wb, on_rpl, grant, grantee_of, lacks_link, no_other}
 use Rattle.op_model.specs.Tables.Remote.{on_message, row_of, meets, on_inv, on_nak, on_put, on_putx, on_fwd_get, on_fwd_getx, is_invalidate, waits_write}
-use Rattle.op_model.proofs.Public.{eqb-self}
+use Rattle.op_model.proofs.Public.{eqb-self, three_parts}
 use Rattle.line_invariant.specs.Line.{Line, row_taken, share_of}
 use Rattle.line_invariant.specs.Good.{Status, Asking, Forwarded, Answered, Phase, Clean, HomeOwns, IsGood, IsGoodHeader, IsCarried, is_put, Granted, Carrier, Resting, IsGoodHome, Role, IsGoodNode, asked_role, ToGive, Owned, Called, Asked, SharedOut, HandedOn}
 use Rattle.line_invariant.specs.Rows.{EndsRight, IsPut, wanting, IsLoadWanted, IsServedFor}
@@ -47,9 +47,6 @@ me-phase home (HandedOn r o h) words header copy good waits me = absurd (grind a
 
 granted-writes : (want : Option Want) (copy : Copy) (op : Op) (marked : Bool) → IsCarried want copy Granted → want ≡ wanting op marked → is_load op.kind ≡ false
 granted-writes want copy op marked c e = grind arith
-
-first3 : (a b c : Bool) → (a && b && c) ≡ true → a ≡ true
-first3 a b c e = grind arith
 
 fresh-copy : (words : Words) (lists : Bool) (copy : Copy) (want : Option Want) (status : Status) (role : Role) (has : Words) → IsGoodNode role words lists copy want status → copy ≡ Exclusive has → has ≡ words
 fresh-copy words lists copy want status role has good is = grind arith
@@ -228,14 +225,11 @@ module _ (home : ℕ) (line : Line) (good : IsGood home line) (from : ℕ) (rest
       if-either (At to) (meets to home from (is_empty (line.copy to)) InvAck (share_of line to)) _ _
       (λ met.
       let same : home ≡ to = grind (arith, nat_tests) in
-      let waits : is_invalidate line.header.wait ≡ true = both (to == home) (is_invalidate line.header.wait) (listed line.header.list from) met in
+      let waits : is_invalidate line.header.wait ≡ true = (three_parts (to == home) (is_invalidate line.header.wait) (listed line.header.list from) met).1 in
       subst (λ t. At t (on_inv_ack from (share_of line t))) same (served-ack waits))
       (λ _. tt)
-    where
-      both : (a b c : Bool) → (a && b && c) ≡ true → b ≡ true
-      both a b c e = grind arith
   served-take to class (PutX words) front =
-      if-either (At to) (meets to home from (is_empty (line.copy to)) (PutX words) (share_of line to)) _ _ (λ met. served-putx to words (to == home) (putx-words to class words front) (line.want to) refl (first3 (waits_write (line.want to)) _ _ met)) (λ _. tt)
+      if-either (At to) (meets to home from (is_empty (line.copy to)) (PutX words) (share_of line to)) _ _ (λ met. served-putx to words (to == home) (putx-words to class words front) (line.want to) refl (three_parts (waits_write (line.want to)) _ _ met).0) (λ _. tt)
   served-take to class GetX front = rw (quiet-message room home from to (share_of line to) GetX refl) tt
   served-take to class (FwdGetX r) front = rw (quiet-message room home from to (share_of line to) (FwdGetX r) refl) tt
   served-take to class Inv front = rw (quiet-message room home from to (share_of line to) Inv refl) tt

@@ -5,9 +5,7 @@ use Rattle.std.specs.List.{list_any}
 use Rattle.std.specs.FinMap as fin
 use Rattle.std.proofs.lemmas.Bool.{not-true}
 use Rattle.std.proofs.lemmas.Bool.Decides.{nat_tests}
-use Rattle.std.proofs.lemmas.List.Sums.{sum_by-cons}
 use Rattle.line_map.specs.Sizes.{Sizes, set_of}
-use Rattle.op_model.specs.Nodes.{Nodes}
 use Rattle.op_model.specs.Lines.{is_empty}
 use Rattle.op_model.specs.Shares.{Charge, Linked, Unlinked, Share, copy_of, copy_in, links_among, pending_lines, held_links}
 use Rattle.op_model.specs.Run.Schedules.{other_in_set}
@@ -16,6 +14,7 @@ use Rattle.cpu_cache.specs.Caches.{CacheView, is_set_taken}
 use Rattle.dir_header.specs.Sharers.{Directory, held_by, held_in, free_in}
 use Rattle.dir_header.specs.HomeSides.{HomeView, IsHome}
 use Rattle.op_model.specs.Run.Machines.{MachineRun}
+use Rattle.dir_header.proofs.Public.{held-nothing}
 use Rattle.dir_report.specs.Machines.{IsHome as IsHomeCounts}
 
 -- where one key alone passes, the first entry that passes is its
@@ -61,14 +60,6 @@ module _ (sizes : Sizes) (share : Share) (line : ℕ) where
       (λ q passes. let both = and-true (set_of sizes q == set_of sizes line) (not (q == line)) (not (is_empty (copy_in share.copies q))) passes in
       only q (let a = both.0 in grind (arith, nat_tests)) (not-true (is_empty (copy_in share.copies q)) both.1)) taken
 
-pub untaken : (b : Bool) → (b ≡ true → ⊥) → b ≡ false
-untaken true never = absurd (never refl)
-untaken false never = refl
-
-nothing-held : (lists : List Nodes) → sum_by (held_by Unlinked) lists ≡ 0
-nothing-held [] = refl
-nothing-held (list ∷ lists) = let rest = nothing-held lists in let s = sum_by-cons (held_by Unlinked) list lists in omega (arith, rest, s)
-
 -- the links that are free by the directory are those that the headers leave
 pub free-is : {D : Type 0} (dir : Directory) (home : HomeView D) (share : Share) → IsHome dir home → home.headers ≡ share.headers → free_in dir ≡ free_links home.charge home.sizes share
 free-is dir home share is same = go home.charge refl
@@ -76,7 +67,7 @@ free-is dir home share is same = go home.charge refl
     go : (charge : Charge) → home.charge ≡ charge → free_in dir ≡ free_links charge home.sizes share
     go Linked at = let held = is.held at in λ i. (is.links i) - ((sym held ∙ ap links_among same) i)
     go Unlinked at =
-        let none : held_in dir ≡ 0 = ap (λ ch. sum_by (held_by ch) dir.lists) (is.charge ∙ at) ∙ nothing-held dir.lists in
+        let none : held_in dir ≡ 0 = ap (λ ch. sum_by (held_by ch) dir.lists) (is.charge ∙ at) ∙ held-nothing dir.lists in
         let links : dir.links ≡ home.sizes.links = is.links in
         omega (arith, none, links)
 
@@ -98,7 +89,7 @@ home-held {D = D} dir m node home pending links free is value links_are pending_
 
     by_charge : (charge : Charge) → home.charge ≡ charge → held_in dir ≡ held_links charge (m.past.state.share node)
     by_charge Linked at = sym (is.held at) ∙ ap (λ (h : HomeView D). links_among h.headers) value
-    by_charge Unlinked at = ap (λ ch. sum_by (held_by ch) dir.lists) (is.charge ∙ at) ∙ nothing-held dir.lists
+    by_charge Unlinked at = ap (λ ch. sum_by (held_by ch) dir.lists) (is.charge ∙ at) ∙ held-nothing dir.lists
 
     held : held_in dir ≡ held_links m.charge (m.past.state.share node)
     held = by_charge m.charge (ap (λ (h : HomeView D). h.charge) value)

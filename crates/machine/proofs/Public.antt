@@ -9,7 +9,7 @@ pub use Rattle.machine.proofs.Lists.{front-is, rest_of}
 pub use Rattle.machine.proofs.Programs.{of-machine, program-of, trace_by}
 pub use Rattle.machine.proofs.Laws.{programs-each, some-words}
 pub use Rattle.machine.proofs.ServedAfter.{served-after}
-pub use Rattle.machine.proofs.Starts.{below_or_at, slice_get-middle, slice_get-push_below}
+pub use Rattle.machine.proofs.Starts.{below_or_at, slice_get-push_below}
 pub use Rattle.machine.proofs.Views.{true_of}
-pub use Rattle.machine.proofs.Others.{copy-is, other-none, other-some, untaken}
+pub use Rattle.machine.proofs.Others.{copy-is, other-none, other-some}
 pub use Rattle.machine.proofs.Drives.{made-running}

@@ -20,6 +20,7 @@ use Rattle.machine.specs.Kept.{programs_in, charge_in, share_or, share_in, left_
 use Rattle.machine.specs.Starts.{charge_of, IsFreshOf, AreFresh, IsNewAt, AreNew}
 use Rattle.machine.specs.Faces.{Face, start_face}
 use Rattle.op_model.specs.Programs.{IsProgramOf, ArePrograms}
+use Rattle.op_model.proofs.Public.{slice_get-middle}
 use Rattle.machine.proofs.Faces.{slice_get-mapped}
 
 -- an element before the last one
@@ -27,11 +28,6 @@ pub slice_get-push_below : {A : Type 0} (xs : List A) (x : A) (k : ℕ) → k < 
 slice_get-push_below [] x k below = absurd (omega arith)
 slice_get-push_below (y ∷ xs) x zero below = refl
 slice_get-push_below (y ∷ xs) x (suc k) below = slice_get-push_below xs x k (omega arith)
-
--- the element behind these
-pub slice_get-middle : {A : Type 0} (xs : List A) (y : A) (ys : List A) → slice_get (xs ++ y ∷ ys) (length xs) ≡ Some y
-slice_get-middle [] y ys = refl
-slice_get-middle (x ∷ xs) y ys = slice_get-middle xs y ys
 
 pub below_or_at : (k n : ℕ) → k < n + 1 → (k < n) ⊎ (k ≡ n)
 below_or_at k n below = go (cases_lt k n)

@@ -1,5 +1,5 @@
 -- What each handler needs, from the row that its message meets and from what a node keeps.
-use Rattle.std.proofs.Common.{◌≡◌, ◌≢◌, ℕ, ◌<◌, Bool, true, false, not, ◌&&◌, ◌||◌, ◌==◌, Some, None, refl, sym, ap, ◌∙◌, subst, arith}
+use Rattle.std.proofs.Common.{◌≡◌, ◌≢◌, ℕ, ◌<◌, Bool, true, false, not, ◌||◌, ◌==◌, refl, sym, ◌∙◌, arith}
 use Rattle.std.proofs.lemmas.Bool.{and_parts, not-true, eqb-true, eq-eqb}
 use Rattle.line_map.specs.Sizes.{home_of}
 use Rattle.op_model.specs.declared.messages.Msg.TheVariants as msg
@@ -9,12 +9,12 @@ use Rattle.op_model.specs.declared.state.Wait.TheVariants.{Idle, Invalidate, For
 use Rattle.op_model.specs.Nodes.{listed}
 use Rattle.op_model.specs.Operations.{Words}
 use Rattle.op_model.specs.Lines.{Header, LineShare, is_pending, is_outstanding}
-use Rattle.op_model.specs.OwnPart.{IsOwnLine, IsOwnWait}
-use Rattle.op_model.specs.Shares.{Share, copy_of, header_of, is_set_empty, line_share, want_on, header_in}
+use Rattle.op_model.specs.OwnPart.{IsOwnWait}
+use Rattle.op_model.specs.Shares.{Share, is_set_empty, line_share, want_on, header_in}
 use Rattle.op_model.specs.Tables.Home.{requester_of}
 use Rattle.op_model.specs.Tables.Remote.{meets, asks_well, is_invalidate, is_forward, is_forward_get, is_forward_getx, gets_elsewhere, getxs_elsewhere, waits_load, waits_write}
 use Rattle.op_model.specs.Events.Node.{meets_row}
-use Rattle.op_model.proofs.Public.{three_parts}
+use Rattle.op_model.proofs.Public.{forward-get, forward-getx, three_parts}
 use Rattle.own_part.proofs.Public.{all4}
 use Rattle.cpu_cache.specs.Caches.{CacheView}
 use Rattle.cpu_cache.specs.Processors.{ProcView}
@@ -43,18 +43,6 @@ getxs-forward home Idle e = cc
 getxs-forward home (Invalidate g) e = cc
 getxs-forward home (ForwardGet r) e = cc
 getxs-forward home (ForwardGetX r) e = refl
-
-get-forward : (home : ℕ) (wait : Wait) → is_forward_get home wait ≡ true → is_forward wait ≡ true
-get-forward home Idle e = cc
-get-forward home (Invalidate g) e = cc
-get-forward home (ForwardGet r) e = refl
-get-forward home (ForwardGetX r) e = cc
-
-getx-forward : (home : ℕ) (wait : Wait) → is_forward_getx home wait ≡ true → is_forward wait ≡ true
-getx-forward home Idle e = cc
-getx-forward home (Invalidate g) e = cc
-getx-forward home (ForwardGet r) e = cc
-getx-forward home (ForwardGetX r) e = refl
 
 module _ {D : Type 0} (number : ℕ) (proc : ProcView) (cache : CacheView) (home : HomeView D) (is : IsMagicNode number proc cache home) (src line : ℕ) where
   abbrev share : Share
@@ -134,13 +122,13 @@ module _ {D : Type 0} (number : ℕ) (proc : ProcView) (cache : CacheView) (home
   unfolding meets_row meets header_in
   put-met words e =
       let m = three_parts (waits_load (want_on home.sizes proc.want line)) (is_set_empty home.sizes share line) (not (number == at) || is_forward_get at h.wait) e in
-      (m.0, m.1, λ own. get-forward at h.wait (either-home (is_forward_get at h.wait) m.2 own))
+      (m.0, m.1, λ own. forward-get at h.wait (either-home (is_forward_get at h.wait) m.2 own))
 
   pub putx-met : (words : Words) → meets_row home.sizes number share src (msg.PutX line words) ≡ true → (waits_write (want_on home.sizes proc.want line) ≡ true) × (is_set_empty home.sizes share line ≡ true) × (at ≡ number → is_forward h.wait ≡ true)
   unfolding meets_row meets header_in
   putx-met words e =
       let m = three_parts (waits_write (want_on home.sizes proc.want line)) (is_set_empty home.sizes share line) (not (number == at) || is_forward_getx at h.wait) e in
-      (m.0, m.1, λ own. getx-forward at h.wait (either-home (is_forward_getx at h.wait) m.2 own))
+      (m.0, m.1, λ own. forward-getx at h.wait (either-home (is_forward_getx at h.wait) m.2 own))
 
   pub nak-met : (cause : NakCause) → meets_row home.sizes number share src (msg.Nak line cause) ≡ true → is_outstanding (want_on home.sizes proc.want line) ≡ true
   unfolding meets_row meets header_in

@@ -11,3 +11,4 @@ pub use Rattle.message_range.proofs.Places.{act-placed}
 pub use Rattle.message_range.proofs.Events.{IsDone, IsGiven, done-by, filled, program-of}
 pub use Rattle.message_range.proofs.Runs.{messages_for_others, messages_of_machine, own-first}
 pub use Rattle.message_range.proofs.Runs.{share-first, share-fits}
+pub use Rattle.message_range.proofs.HomeRows.{apart-listed}

@@ -15,7 +15,7 @@ use Rattle.op_model.proofs.Public.{eqb-self}
 use Rattle.line_invariant.specs.Rows.{wanting}
 use Rattle.line_invariant.proofs.Public.{writes-answered}
 use Rattle.one_history.specs.Project.{project}
-use Rattle.one_history.specs.Sound.{IsBegunWell, IsSound, answered_of}
+use Rattle.one_history.specs.Sound.{IsBegunWell, IsOrdered, IsSound, answered_of}
 
 -- an entry is completed, or of a load
 abbrev pub Done_or_load : State → Entry → Type 0
@@ -76,13 +76,14 @@ long-one l k p h e b = omega arith
 pub short-one : (l p : ℕ) → (l ≡ p) ⊎ (l ≡ suc p) → 0 + l < suc (suc p)
 short-one l p h = omega arith
 
-module _ (trace : Trace) (past : Past) (sound : IsSound trace past) where
+-- where no write that was served waits, what is served is completed, or a load
+module _ (trace : Trace) (past : Past) (ordered : (n : ℕ) → IsOrdered trace n (past.state.share n) (entries_by n past.served))
+    (unserved : (n line : ℕ) (op : Op) (marked : Bool) → want_on trace.sizes (past.state.share n).want line ≡ wanting op marked → is_load op.kind ≡ false → answered_of trace.sizes past line n ≡ false) where
   last-loads : (n : ℕ) (next : Op) → slice_get (program trace n) (past.state.share n).place ≡ Some next → length (entries_by n past.served) ≡ suc (past.state.share n).place → is_load next.kind ≡ true
-  unfolding project
-  last-loads n next e long = go (past.state.share n).want refl (sound.ordered n).begun
+  last-loads n next e long = go (past.state.share n).want refl (ordered n).begun
     where
       go : (begun : Option Want) → (past.state.share n).want ≡ begun → IsBegunWell trace n (past.state.share n).place begun → is_load next.kind ≡ true
-      go None b well = absurd (let r = (sound.ordered n).rests b in omega arith)
+      go None b well = absurd (let r = (ordered n).rests b in omega arith)
       go (Some want) b well =
           let same : want.op ≡ next = both-some _ _ _ well e in
           ap (λ o. is_load o.kind) (sym same) ∙ loads (is_load want.op.kind) refl
@@ -94,12 +95,17 @@ module _ (trace : Trace) (past : Past) (sound : IsSound trace past) where
           loads true load = refl
           loads false write =
               let wants : want_on trace.sizes (past.state.share n).want line ≡ wanting want.op want.marked = rw (b, eqb-self line) in
-              let no : answered_of trace.sizes past line n ≡ false = writes-answered (home_of trace.sizes line) _ (sound.lines line) n want.op want.marked wants write in
+              let no : answered_of trace.sizes past line n ≡ false = unserved n line want.op want.marked wants write in
               let t : (length (entries_by n past.served) == suc (past.state.share n).place) ≡ true = grind (arith, nat_tests) in
               let yes : answered_of trace.sizes past line n ≡ true = rw (b, eqb-self line, t) in
               let d : true ≡ false = sym yes ∙ no in cc
 
-  pub legal-history : IsLegal (history past)
-  legal-history = legal-kept past.state _ past.served (by-node (Done_or_load past.state) past.served (λ n.
-      follows-each past.state n (program trace n) 0 (entries_by n past.served) (of-node n past.served) (sound.ordered n).order
-      (λ k next at e below. last-loads n next (rw (← at) e) (long-one _ _ _ (sound.ordered n).count at below)) (short-one _ _ (sound.ordered n).count))) sound.legal
+  pub each-served : Each (Done_or_load past.state) past.served
+  each-served = by-node (Done_or_load past.state) past.served (λ n.
+      follows-each past.state n (program trace n) 0 (entries_by n past.served) (of-node n past.served) (ordered n).order
+      (λ k next at e below. last-loads n next (rw (← at) e) (long-one _ _ _ (ordered n).count at below)) (short-one _ _ (ordered n).count))
+
+pub legal-history : (trace : Trace) (past : Past) → IsSound trace past → IsLegal (history past)
+unfolding project
+legal-history trace past sound =
+    legal-kept past.state _ past.served (each-served trace past sound.ordered (λ n line op marked. writes-answered (home_of trace.sizes line) _ (sound.lines line) n op marked)) sound.legal

@@ -16,7 +16,7 @@ use Rattle.op_model.specs.declared.operations.Op.{Op}
 use Rattle.op_model.specs.declared.state.Want.{Want}
 use Rattle.op_model.specs.Events.Node.{EvictLine, HitNext, Input, IssueNext, NodeOutcome, ReclaimLine, TakeFrom, and_call, asks_victim, bind, by_row, departs, evict_line, fits_victim, hit_next, is_get, is_outstanding, issue_next, local, map_ok, meets_row, take_from, taking, with_next, with_victim}
 use Rattle.op_model.specs.Events.Step.{Done, Off, act, effect, has_room, none_off, one_off, take_front}
-use Rattle.op_model.specs.Lines.{Absent, Copy, Exclusive, For, Header, LineShare, NoService, Outcome, Own, Room, Service, Shared, is_empty, is_pending, no_message, sending, words_of}
+use Rattle.op_model.specs.Lines.{Absent, Copy, Exclusive, Header, LineShare, NoService, Outcome, Room, Shared, is_empty, is_pending, no_message, sending, words_of}
 use Rattle.op_model.specs.Messages.{Content, FAck, FwdGet, FwdGetX, Get, GetX, Inv, InvAck, Nak, Nakc, Put, PutX, Rpl, ShWb, Wb, msg_content, msg_line}
 use Rattle.op_model.specs.Run.Runs.{Past, past_after}
 use Rattle.op_model.specs.Shares.{Charge, Share, State, Trace, conflicts, copy_of, header_of, is_set_empty, line_share, program, put_share, room_of, share_at, want_on}
@@ -27,7 +27,7 @@ use Rattle.op_model.proofs.Public.{eqb-self, err-ok, last_two_parts, parts_but_l
 use Rattle.op_model.proofs.Public.{serves-copy}
 use Rattle.line_invariant.specs.Good.{IsGood}
 use Rattle.line_invariant.specs.Line.{Line, after_row}
-use Rattle.line_invariant.specs.Rows.{IsDoneRight, IsOwnServed, IsOwnWant, IsWantKept, wanting, with_header}
+use Rattle.line_invariant.specs.Rows.{IsDoneRight, IsWantKept, wanting, with_header}
 use Rattle.line_invariant.proofs.Public.{away-begin, away-evict, away-message, good-begin, good-evict}
 use Rattle.line_invariant.proofs.Public.{good-hit, good-reclaim, hit-fresh, idle-answered, if-either}
 use Rattle.line_invariant.proofs.Public.{same-alone, wants-empty}
@@ -38,7 +38,7 @@ use Rattle.one_history.proofs.Owns.{IsOwn, call-past, none-dropped, one-dropped,
 use Rattle.one_history.proofs.Rows.{kept-in, sound-called, sound-local, sound-take}
 use Rattle.one_history.proofs.Sets.{room-issue, waits-alone}
 use Rattle.one_history.proofs.Shares.{header-other, header-same, row_past, taken_of}
-use Rattle.one_history.proofs.Sound.{IsServedIn}
+use Rattle.one_history.proofs.Nodes.{IsServedIn, own-done, own-served, own-want}
 
 -- an eviction or a reclaim serves nothing, begins nothing and brings no copy
 module _ (row : LineShare) (o : Outcome) where
@@ -148,24 +148,9 @@ module _ (charge : Charge) (trace : Trace) (positive : 0 < trace.sizes.words) (p
   next-is : (node : ℕ) (next : Op) → slice_get (program trace node) (share node).place ≡ Some next → IsNextOp trace node (share node).place (line_of sizes next.word) next
   next-is node next e = (e, refl)
 
-  own-served : (op : Op) (node line : ℕ) (service : Service) → IsNextOp trace node (share node).place line op → (share node).want ≡ None → answered_of sizes past line node ≡ false → IsOwnServed op (line_words sizes past.served line) service → IsServedIn trace past node line (line_words sizes past.served line) service
-  own-served op node line NoService is free idle h = tt
-  own-served op node line (Own served on) is free idle h = (h.0, subst (IsNextOp trace node (share node).place line) (sym h.1) is, inl free, idle)
-  own-served op node line (For other on) is free idle h = absurd h
-
-  own-want : (op : Op) (node line : ℕ) (want : Option Want) → IsNextOp trace node (share node).place line op → IsOwnWant op want → IsNextWant trace node (share node).place line want
-  own-want op node line None is h = tt
-  own-want op node line (Some want) is h = subst (IsNextOp trace node (share node).place line) (sym h) is
-
   free-want : (begun : Option Want) (line : ℕ) → is_outstanding begun ≡ false → (begun ≡ None) × (want_on sizes begun line ≡ None)
   free-want None line e = (refl, refl)
   free-want (Some want) line e = cc
-
-  right-any : (Known : Type 0) (service : Service) (done : Bool) (want : Option Want) → IsDoneRight ⊥ service done want → IsDoneRight Known service done want
-  right-any Known NoService true want h = absurd h.1
-  right-any Known NoService false want h = tt
-  right-any Known (Own op on) done want h = h
-  right-any Known (For node on) done want h = h
 
   -- a node that has begun nothing has no load served
   none-served : (node line : ℕ) → want_on sizes (share node).want line ≡ None → answered_of sizes past line node ≡ false
@@ -206,7 +191,7 @@ module _ (charge : Charge) (trace : Trace) (positive : 0 < trace.sizes.words) (p
           let x : Outcome = same.0 in
           let fine = good-begin (home_of sizes line) (line_at_all line) (sound.lines line) node op none.1 (room_of charge sizes (share node)) x same.1 in
           keeps-row node line o x same.2
-          (sound-local trace positive past sound node line x fine.0 (own-served op node line x.served is none.0 (none-served node line none.1) fine.1) (right-any _ x.served x.done x.share.want fine.3) (own-want op node line x.share.want is fine.2)
+          (sound-local trace positive past sound node line x fine.0 (own-served trace past node line _ op x.served is none.0 (none-served node line none.1) fine.1) (own-done _ x.served x.done x.share.want fine.3) (own-want trace node (share node).place line op x.share.want is fine.2)
           (inr (room-issue sizes (share node) line none.0 room)) (inl none.0))
 
   keeps-next : (node : ℕ) (f : Op → Result NodeOutcome Cause) → ((next : Op) → slice_get (program trace node) (share node).place ≡ Some next → is_outstanding (share node).want ≡ false → Keeps node none_off (f next)) → Keeps node none_off (with_next (share node) (slice_get (program trace node) (share node).place) f)

@@ -5,6 +5,7 @@ pub mod LocalRoom
 pub mod States
 pub mod Sets
 pub mod Order
+pub mod Nodes
 pub mod Sound
 pub mod Completed
 pub mod Rows

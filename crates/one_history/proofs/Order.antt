@@ -17,7 +17,7 @@ pub by-append : (node : ℕ) (xs ys : List Entry) → entries_by node (xs ++ ys)
 by-append node [] ys = refl
 by-append node (x ∷ xs) ys = let e = by-append node xs ys in grind arith
 
-follows-push : (ops : List Op) (index at : ℕ) (xs : List Entry) (e : Entry) → at ≡ index + length xs → Follows ops index xs → IsNext at (slice_get ops at) e → Follows ops index (xs ++ e ∷ [])
+pub follows-push : (ops : List Op) (index at : ℕ) (xs : List Entry) (e : Entry) → at ≡ index + length xs → Follows ops index xs → IsNext at (slice_get ops at) e → Follows ops index (xs ++ e ∷ [])
 follows-push ops index at [] e is f next = let same : at ≡ index = omega arith in (subst (λ k. IsNext k (slice_get ops k) e) same next, tt)
 follows-push ops index at (x ∷ xs) e is f next = (f.0, follows-push ops (suc index) at xs e (omega arith) f.1 next)
 

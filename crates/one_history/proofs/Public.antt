@@ -11,10 +11,11 @@ pub use Rattle.one_history.proofs.LocalRoom.{local_room}
 pub use Rattle.one_history.proofs.Sets.{IsRoomFor, any-found, any-none, cached-row, found}
 pub use Rattle.one_history.proofs.Sets.{none-conflicts, room-issue, waits-alone}
 pub use Rattle.one_history.proofs.Order.{IsNextWant, begun-next, by-append, next-on, ordered-done}
-pub use Rattle.one_history.proofs.Order.{ordered-own, ordered-row, ordered-served, wanted}
-pub use Rattle.one_history.proofs.Sound.{IsServedIn, after-append, legal-append, next-entry}
-pub use Rattle.one_history.proofs.Completed.{Done_or_load, Each, both-some, by-node, follows-each}
-pub use Rattle.one_history.proofs.Completed.{legal-kept, long-one, of-node, short-one}
+pub use Rattle.one_history.proofs.Order.{follows-push, ordered-own, ordered-row, ordered-served, wanted}
+pub use Rattle.one_history.proofs.Nodes.{IsServedIn, nodes-after, own-done, own-served}
+pub use Rattle.one_history.proofs.Nodes.{own-want, unserved-before}
+pub use Rattle.one_history.proofs.Sound.{after-append, legal-append}
+pub use Rattle.one_history.proofs.Completed.{Done_or_load, Each, by-node, each-served, legal-kept, of-node}
 pub use Rattle.one_history.proofs.Rows.{kept-fits}
 pub use Rattle.one_history.proofs.Owns.{IsOwn, at-home, call-past, none-dropped, one-dropped}
 pub use Rattle.one_history.proofs.Owns.{own-ok, own-past, own-row, to_lane-append}

@@ -24,7 +24,8 @@ use Rattle.one_history.proofs.Order.{IsNextWant, begun-next, wanted}
 use Rattle.one_history.proofs.Project.{project-taken, project-taken-other}
 use Rattle.one_history.proofs.Sets.{IsRoomFor}
 use Rattle.one_history.proofs.Shares.{after_row_of, of_line-front, row_past, taken_of}
-use Rattle.one_history.proofs.Sound.{IsServedIn, sound-row}
+use Rattle.one_history.proofs.Nodes.{IsServedIn}
+use Rattle.one_history.proofs.Sound.{sound-row}
 
 -- nothing is begun where nothing was
 pub kept-fits : (want next : Option Want) → IsWantKept want next → want ≡ None → next ≡ None

@@ -1,5 +1,5 @@
 -- Plain facts that several crates use: on Booleans, tests of numbers, lists, options and results, and sums below a bound.
-use Rattle.std.proofs.Common.{◌≡◌, ℕ, zero, suc, ◌+◌, ◌<◌, Bool, true, false, cond, nat_lt, ◌==◌, ◌&&◌, not, List, [], ◌∷◌, ◌++◌, map, replicate, take, slice_get, is_some, unwrap_or, filter, Option, Some, None, Result, Ok, Err, refl, sym, ap, ◌∙◌, arith}
+use Rattle.std.proofs.Common.{◌≡◌, ℕ, zero, suc, ◌+◌, ◌<◌, Bool, true, false, cond, nat_lt, ◌==◌, ◌&&◌, not, List, [], ◌∷◌, ◌++◌, map, length, replicate, take, slice_get, is_some, unwrap_or, filter, Option, Some, None, Result, Ok, Err, refl, sym, ap, ◌∙◌, arith}
 use Rattle.std.specs.List.{find, range_with_len}
 use Rattle.std.proofs.lemmas.Bool.Decides.{nat_tests}
 use Rattle.std.proofs.lemmas.List.{map-id, take_more}
@@ -32,6 +32,11 @@ second_of_four a b c d e f = grind arith
 -- where two aren't both so and the first is, the other isn't
 pub other_fails : (a b : Bool) → (a && b) ≡ false → a ≡ true → b ≡ false
 other_fails a b e f = grind arith
+
+-- a test that can't pass is false
+pub never_passes : (test : Bool) → (test ≡ true → ⊥) → test ≡ false
+never_passes true never = absurd (never refl)
+never_passes false never = refl
 
 -- ---- tests of numbers
 
@@ -66,6 +71,11 @@ range-more n =
 -- the first elements of a list, and the next one
 pub take-next : {A : Type 0} (xs : List A) (i : ℕ) (x : A) → slice_get xs i ≡ Some x → take (i + 1) xs ≡ take i xs ++ x ∷ []
 take-next xs i x is = take_more xs i x (slice_get_within xs i x is) ∙ ap (λ y. take i xs ++ y ∷ []) (get_or_from_slice_get xs i x x is)
+
+-- the element behind these
+pub slice_get-middle : {A : Type 0} (xs : List A) (y : A) (ys : List A) → slice_get (xs ++ y ∷ ys) (length xs) ≡ Some y
+slice_get-middle [] y ys = refl
+slice_get-middle (x ∷ xs) y ys = slice_get-middle xs y ys
 
 -- what is found passes the test
 pub find-passes : {A : Type 0} (p : A → Bool) (xs : List A) (x : A) → find p xs ≡ Some x → p x ≡ true

@@ -22,7 +22,7 @@ use Rattle.op_model.specs.Shares.{first_header, first_headers, want_after, want_
 use Rattle.op_model.specs.Events.Node.{permit}
 use Rattle.op_model.specs.Run.Schedules.{is_no_message}
 use Rattle.op_model.specs.Tables.Processor.{fits, serves}
-use Rattle.op_model.specs.Tables.Remote.{is_invalidate, waits_load, waits_write}
+use Rattle.op_model.specs.Tables.Remote.{is_forward, is_forward_get, is_forward_getx, is_invalidate, waits_load, waits_write}
 
 -- ---- copies
 
@@ -63,6 +63,27 @@ idle-calm Idle e = refl
 idle-calm (Invalidate g) e = cc
 idle-calm (ForwardGet r) e = refl
 idle-calm (ForwardGetX r) e = refl
+
+-- a line that waits for acknowledgements isn't idle
+pub called-pends : (wait : Wait) → is_invalidate wait ≡ true → not (is_idle wait) ≡ true
+called-pends Idle e = cc
+called-pends (Invalidate g) e = refl
+called-pends (ForwardGet r) e = cc
+called-pends (ForwardGetX r) e = cc
+
+-- a forward of a load is a forward
+pub forward-get : (home : ℕ) (wait : Wait) → is_forward_get home wait ≡ true → is_forward wait ≡ true
+forward-get home Idle e = cc
+forward-get home (Invalidate g) e = cc
+forward-get home (ForwardGet r) e = refl
+forward-get home (ForwardGetX r) e = cc
+
+-- a forward of a write is a forward
+pub forward-getx : (home : ℕ) (wait : Wait) → is_forward_getx home wait ≡ true → is_forward wait ≡ true
+forward-getx home Idle e = cc
+forward-getx home (Invalidate g) e = cc
+forward-getx home (ForwardGet r) e = cc
+forward-getx home (ForwardGetX r) e = refl
 
 -- ---- what a node has begun
 

@@ -49,7 +49,7 @@ pub remove-1-of-0 : {X : Type 0} (a : X) → fin.remove (fin.insert {R = nat_cmp
 remove-1-of-0 a = remove-absent _ 1 (simp (get-put, get-none) refl)
 
 -- what was put at a key is gone when the key is put again, or removed
-over : {A : Type 0} (same : Bool) (new old other : A) → cond same new (cond same old other) ≡ cond same new other
+pub over : {A : Type 0} (same : Bool) (new old other : A) → cond same new (cond same old other) ≡ cond same new other
 over true new old other = refl
 over false new old other = refl
 

@@ -1,6 +1,6 @@
 -- Whether another line stands in the cache set of a line: no conflict is found exactly where the search for one finds nothing, and that is
 -- where each other line of the set is absent.
-use Rattle.std.proofs.Common.{◌≡◌, ◌≢◌, ℕ, Bool, true, false, cond, not, ◌==◌, ◌&&◌, ◌||◌, List, [], ◌∷◌, refl, arith, ap, ◌∙◌, subst, Option, Some, None, option_map}
+use Rattle.std.proofs.Common.{◌≡◌, ◌≢◌, ℕ, Bool, true, false, cond, not, ◌==◌, ◌&&◌, ◌||◌, List, [], ◌∷◌, refl, arith, ap, sym, ◌∙◌, subst, Option, Some, None, option_map}
 use Rattle.std.proofs.lemmas.Bool.Decides.{nat_tests}
 use Rattle.std.specs.List.{find, list_any}
 use Rattle.std.specs.FinMap as fin
@@ -10,6 +10,7 @@ use Rattle.op_model.specs.Run.Schedules.{other_in_set}
 use Rattle.op_model.specs.Shares.{Share, conflicts, copy_of}
 use Rattle.op_model.proofs.Public.{empty-copy, find-passes}
 use Rattle.one_history.proofs.Public.{any-none, none-conflicts}
+use Rattle.one_history.specs.Sound.{IsCached}
 
 find-nothing : {X : Type 0} (p : X → Bool) (xs : List X) → ((x : X) → p x ≡ false) → find p xs ≡ None
 find-nothing p [] fails = refl
@@ -80,3 +81,19 @@ module _ (sizes : Sizes) (share : Share) (line : ℕ) where
 
           off : (x.0 == line) ≡ false → x.0 ≢ line
           off t = grind (arith, nat_tests)
+
+-- when the other line of the set has left, a line stands alone in it
+pub left-alone : (sizes : Sizes) (before after : Share) (line g : ℕ) → IsCached sizes before → set_of sizes g ≡ set_of sizes line → is_empty (copy_of before g) ≡ false →
+    ((x : ℕ) → x ≢ g → copy_of after x ≡ copy_of before x) → copy_of after g ≡ Absent → IsAlone sizes after line
+left-alone sizes before after line g cached in_set has copies gone x other same = go (x == g) refl
+  where
+    some : (copy : Copy) (b : Bool) → is_empty copy ≡ false → (not (is_empty copy) || b) ≡ true
+    some copy b e = ap (λ c. not c || b) e
+
+    go : (c : Bool) → (x == g) ≡ c → copy_of after x ≡ Absent
+    go true e = let is_g : x ≡ g = grind (arith, nat_tests) in ap (copy_of after) is_g ∙ gone
+    go false e = let far : x ≢ g = grind (arith, nat_tests) in copies x far ∙ empty far (is_empty (copy_of before x)) refl
+      where
+        empty : x ≢ g → (c : Bool) → is_empty (copy_of before x) ≡ c → copy_of before x ≡ Absent
+        empty far true f = empty-copy _ f
+        empty far false f = absurd (far (cached x g (some _ _ f) (some _ _ has) (same ∙ sym in_set)))

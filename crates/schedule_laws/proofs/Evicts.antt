@@ -1,6 +1,6 @@
 -- Room is made for the next operation at rest: the line that stands in the cache set leaves, its message is taken, and the machine is at
 -- rest as before, but for that copy.
-use Rattle.std.proofs.Common.{◌≡◌, ◌≢◌, ℕ, suc, ◌<◌, ◌≤◌, ◌⊎◌, inl, inr, Bool, true, false, cond, not, nat_lt, ◌==◌, ◌&&◌, [], ◌∷◌, refl, arith, ap, sym, ◌∙◌, subst, Option, Some, Result, Ok, Err}
+use Rattle.std.proofs.Common.{◌≡◌, ◌≢◌, ℕ, suc, ◌<◌, ◌≤◌, ◌⊎◌, inl, inr, Bool, true, false, cond, not, ◌==◌, ◌&&◌, [], ◌∷◌, refl, arith, ap, sym, ◌∙◌, subst, Option, Some, Result, Ok, Err}
 use Rattle.std.proofs.lemmas.Bool.{cases_lt}
 use Rattle.std.proofs.lemmas.Bool.Decides.{nat_tests}
 use Rattle.line_map.specs.Sizes.{Sizes, home_of}
@@ -12,19 +12,19 @@ use Rattle.op_model.specs.declared.events.Event.TheVariants.{Evict}
 use Rattle.op_model.specs.declared.events.EvictKind.{EvictKind}
 use Rattle.op_model.specs.declared.events.EvictKind.TheVariants as way
 use Rattle.op_model.specs.Events.Node.{departs, is_get}
-use Rattle.op_model.specs.Events.Step.{departures, has_room}
+use Rattle.op_model.specs.Events.Step.{has_room}
 use Rattle.op_model.specs.Lines.{Absent, Copy, Exclusive, LineShare, Outcome, Room, Shared, is_empty, is_idle, words_of}
 use Rattle.op_model.specs.Messages.{Content, Rpl, Wb, message, msg_class, msg_content, msg_line}
 use Rattle.op_model.specs.Operations.{Words}
 use Rattle.op_model.specs.Run.Rest.{IsAtRest}
 use Rattle.op_model.specs.Run.Runs.{Past}
 use Rattle.op_model.specs.Run.Schedules.{eviction_of}
-use Rattle.op_model.specs.Shares.{Charge, Share, State, Trace, copy_of, put_share, room_of, share_at}
+use Rattle.op_model.specs.Shares.{Charge, State, Trace, copy_of, put_share, room_of, share_at}
 use Rattle.op_model.specs.Tables.Home.{on_rpl, on_wb}
 use Rattle.op_model.specs.Tables.Processor.{evict, fits, leave_home, leave_remote}
 use Rattle.op_model.specs.Tables.Remote.{meets, on_message, row_of}
 use Rattle.line_invariant.proofs.Public.{if-either}
-use Rattle.one_history.proofs.Public.{copy-other, copy-same, put-stays}
+use Rattle.one_history.proofs.Public.{put-stays}
 use Rattle.lane_bounds.proofs.Public.{after_row_of, asks_victim, row_at, sent_of, taken_of}
 use Rattle.rest_laws.proofs.Public.{rests}
 use Rattle.schedule_laws.specs.Courses.{is_any_nak}
@@ -35,6 +35,7 @@ use Rattle.schedule_laws.proofs.Settling.{at-share}
 use Rattle.schedule_laws.proofs.Single.{AreEmpty, OnlyOne, OnlySent, none-sent, one-sent, one-taken, only-sent}
 use Rattle.schedule_laws.proofs.Takes.{round-taken}
 use Rattle.schedule_laws.proofs.Under.{AllSent}
+use Rattle.schedule_laws.proofs.FromRest.{copies-after, gone-after, open-gate, places-after}
 
 -- what an eviction of the schedule does: the copy is gone, nothing is done, and elsewhere than at the home one message leaves
 abbrev pub IsEviction : Bool → ℕ → LineShare → Outcome → Type 0
@@ -98,10 +99,7 @@ module _ (charge : Charge) (trace : Trace) (usual : IsUsual trace) (next : State
 
   -- with empty lanes the gate is open
   gate : (departs (p == home) kind && not (has_room sizes (first.state.lane p home Request))) ≡ false
-  gate = open_gate (departs (p == home) kind) (departures (first.state.lane p home Request)) sizes.evicts (ap departures (at_rest.lanes p home Request)) usual.evicts
-    where
-      open_gate : (a : Bool) (n limit : ℕ) → n ≡ 0 → 0 < limit → (a && not (nat_lt n limit)) ≡ false
-      open_gate a n limit e some = grind (arith, nat_tests)
+  gate = open-gate sizes (first.state.lane p home Request) (departs (p == home) kind) (at_rest.lanes p home Request) usual.evicts
 
   -- what comes after it, from rest
   abbrev pub Later : ℕ → ℕ → Type 0
@@ -110,26 +108,6 @@ module _ (charge : Charge) (trace : Trace) (usual : IsUsual trace) (next : State
       IsRound charge trace usual next delivers p places end most naks
 
   module _ (chosen : next first.state ≡ Some (Evict p g kind)) (outcome : Outcome) (does : evict p home kind share ≡ Ok outcome) (gone : outcome.share.copy ≡ Absent) (undone : outcome.done ≡ false) where
-    abbrev own : Share
-    own = put_share sizes (p == home) g outcome.done outcome.share (first.state.share p)
-
-    place-own : own.place ≡ places p
-    unfolding put_share
-    place-own = ap (λ d. cond d (suc (places p)) (places p)) undone
-
-    module _ (then : Past) (at : then.state ≡ after_row_of sizes p g outcome first.state) where
-      share-then : (P : Share → Type 0) (n : ℕ) → (n ≢ p → P (first.state.share n)) → (n ≡ p → P own) → P (then.state.share n)
-      share-then P n was is = subst (λ (s : State). P (s.share n)) (sym at) (at-share sizes first.state first.state.lane p g outcome P n was is)
-
-      places-then : (n : ℕ) → (then.state.share n).place ≡ places n
-      places-then n = share-then (λ s. s.place ≡ places n) n (λ _. refl) (λ same. place-own ∙ ap places (sym same))
-
-      copies-then : (x : ℕ) → x ≢ g → copy_of (then.state.share p) x ≡ copy_of (first.state.share p) x
-      copies-then x other = share-then (λ s. copy_of s x ≡ copy_of (first.state.share p) x) p (λ far. absurd (far refl)) (λ _. copy-other sizes (p == home) g outcome.done outcome.share (first.state.share p) x other)
-
-      gone-then : copy_of (then.state.share p) g ≡ Absent
-      gone-then = share-then (λ s. copy_of s g ≡ Absent) p (λ far. absurd (far refl)) (λ _. copy-same sizes (p == home) g outcome.done outcome.share (first.state.share p) ∙ gone)
-
     made : IsMade charge trace first (Evict p g kind) p g outcome
     made = evict-made charge trace usual first known p g kind outcome does gate
 
@@ -138,7 +116,7 @@ module _ (charge : Charge) (trace : Trace) (usual : IsUsual trace) (next : State
         round-made charge trace usual next delivers p places first most naks known (Evict p g kind) p g outcome chosen made (subst (AllSent IsNoNak) (sym silent) tt)
         (λ then known_then at.
         let empty : AreEmpty then.state.lane = subst (λ (s : State). AreEmpty s.lane) (sym at) (none-sent p g _ (subst (λ l. OnlySent p g l (sent_of p g outcome.sends first.state.lane)) silent (only-sent p g outcome.sends first.state.lane at_rest.lanes))) in
-        later then known_then (rests trace charge then known_then.sound known_then.bounded empty) (places-then then at) (copies-then then at) (gone-then then at))
+        later then known_then (rests trace charge then known_then.sound known_then.bounded empty) (places-after sizes first.state p g outcome then.state at undone) (copies-after sizes first.state p g outcome then.state at) (gone-after sizes first.state p g outcome then.state at gone))
 
     evicted-away : (most naks : ℕ) (content : Content) → outcome.sends ≡ (home, content) ∷ [] → (content ≡ Rpl) ⊎ ((words : Words) × (content ≡ Wb words)) → p ≢ home → is_any_nak content ≡ false → msg_content (message g content) ≡ content → msg_line (message g content) ≡ g → is_get content ≡ false → Later most naks →
         IsRound charge trace usual next delivers p places first (suc (suc most)) naks
@@ -174,9 +152,9 @@ module _ (charge : Charge) (trace : Trace) (usual : IsUsual trace) (next : State
                 let empty : AreEmpty last.state.lane = subst (λ (s : State). AreEmpty s.lane) (sym is) (none-sent home l _ (subst (λ x. OnlySent home l x (sent_of home l o.sends lane)) row.0 (only-sent home l o.sends lane clear))) in
                 let share_p : last.state.share p ≡ then.state.share p = ap (λ (s : State). s.share p) is ∙ at-share sizes then.state lane home l o (λ s. s ≡ then.state.share p) p (λ _. refl) (λ near. absurd (apart near)) in
                 later last known_last (rests trace charge last known_last.sound known_last.bounded empty)
-                (λ n. ap (λ (s : State). (s.share n).place) is ∙ at-share sizes then.state lane home l o (λ s. s.place ≡ places n) n (λ _. places-then then at n) (λ near. place-home then l o row.1 ∙ ap (λ k. (then.state.share k).place) (sym near) ∙ places-then then at n))
-                (λ x other. ap (λ s. copy_of s x) share_p ∙ copies-then then at x other)
-                (ap (λ s. copy_of s g) share_p ∙ gone-then then at)
+                (λ n. ap (λ (s : State). (s.share n).place) is ∙ at-share sizes then.state lane home l o (λ s. s.place ≡ places n) n (λ _. places-after sizes first.state p g outcome then.state at undone n) (λ near. place-home then l o row.1 ∙ ap (λ k. (then.state.share k).place) (sym near) ∙ places-after sizes first.state p g outcome then.state at undone n))
+                (λ x other. ap (λ s. copy_of s x) share_p ∙ copies-after sizes first.state p g outcome then.state at x other)
+                (ap (λ s. copy_of s g) share_p ∙ gone-after sizes first.state p g outcome then.state at gone)
               where
                 place-home : (then : Past) (l : ℕ) (o : Outcome) → o.done ≡ false → (put_share sizes (home == home_of sizes l) l o.done o.share (then.state.share home)).place ≡ (then.state.share home).place
                 place-home then l o e = put-stays sizes (home == home_of sizes l) l o.done o.share (then.state.share home) e

@@ -30,13 +30,14 @@ use Rattle.schedule_laws.proofs.Known.{Delivers, IsKnown, IsNoNak, IsUsual}
 use Rattle.schedule_laws.proofs.Recalls.{calm-grants, header_at}
 use Rattle.schedule_laws.proofs.Requests.{IsBegunAs, IsBegunHere, IsCallingFor, IsDoneHere, ask-row, begin-away, begin-home, each-settles, home-row}
 use Rattle.schedule_laws.proofs.RestLines.{IsRestLine}
-use Rattle.schedule_laws.proofs.RestMoments.{free-at, idle-at, listed-only, rest-at, room-free, tracked-first, unlisted-at}
+use Rattle.schedule_laws.proofs.RestMoments.{free-at, idle-at, listed-only, rest-at, room-free, unlisted-at}
 use Rattle.schedule_laws.proofs.Rounds.{IsRound, round-made, round-none, round-wider}
 use Rattle.schedule_laws.proofs.Settled.{AllSettle, still}
 use Rattle.schedule_laws.proofs.Settling.{GoesOn, grants_at}
 use Rattle.schedule_laws.proofs.Single.{OnlyOne, OnlySent, none-sent, one-sent, only-sent}
 use Rattle.schedule_laws.proofs.Stages.{IsStage, granted-then, grants-home, round-sent, share-away}
 use Rattle.schedule_laws.proofs.Under.{AllSent}
+use Rattle.schedule_laws.proofs.FromRest.{tracked-first}
 
 -- At rest, at these places, the schedule goes on with this operation
 abbrev pub Chooses : Charge → Trace → (State → Option Event) → (ℕ → ℕ) → Op → Type 0
@@ -88,7 +89,7 @@ module _ (charge : Charge) (trace : Trace) (usual : IsUsual trace) (next : State
       round-made charge trace usual next delivers p places first most naks known (Issue p) p line outcome issues (issue-made charge trace usual first known p op is free missed alone outcome begins) all
       (λ then known_then at. later then (record {
         known = known_then;
-        tracked = subst (Rattle.schedule_laws.proofs.Settling.IsTracked p places) (sym at) (tracked-first charge trace usual first known rests p line outcome first.state.lane goes);
+        tracked = subst (Rattle.schedule_laws.proofs.Settling.IsTracked p places) (sym at) (tracked-first trace.sizes first.state p line outcome rests.wants first.state.lane goes);
         granted = granted-then charge trace usual next delivers p line places first.state first.state.lane p outcome then known_then at granted-first;
       }) at)
 

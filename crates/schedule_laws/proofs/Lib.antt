@@ -14,6 +14,7 @@ pub mod Takes
 pub mod Requests
 pub mod Stages
 pub mod Forwards
+pub mod FromRest
 pub mod RestMoments
 pub mod Asked
 pub mod Gets

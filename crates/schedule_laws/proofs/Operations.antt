@@ -1,13 +1,12 @@
 -- From rest the schedule completes the operation that it chooses, within 2N + 8 events and with at most one Nak: a Hit, or room is made and
 -- the operation is issued, at its line's home or elsewhere, and once more where a link is wanted.
-use Rattle.std.proofs.Common.{◌≡◌, ◌≢◌, ℕ, suc, ◌+◌, ◌*◌, ◌<◌, Bool, true, false, cond, not, ◌==◌, ◌||◌, [], slice_get, refl, arith, ap, sym, ◌∙◌, subst, Option, Some, None, option_map, is_ok, inl}
+use Rattle.std.proofs.Common.{◌≡◌, ◌≢◌, ℕ, suc, ◌+◌, ◌*◌, ◌<◌, Bool, true, false, cond, ◌==◌, [], slice_get, refl, arith, ap, sym, ◌∙◌, subst, Option, Some, None, option_map, is_ok, inl}
 use Rattle.std.proofs.lemmas.Bool.Decides.{nat_tests}
-use Rattle.line_map.specs.Sizes.{Sizes, home_of, line_of, set_of}
+use Rattle.line_map.specs.Sizes.{Sizes, home_of, line_of}
 use Rattle.op_model.specs.declared.events.Event.{Event}
 use Rattle.op_model.specs.declared.events.Event.TheVariants.{Evict, Hit, Issue}
 use Rattle.op_model.specs.declared.operations.Op.{Op}
 use Rattle.op_model.specs.Events.Node.{is_outstanding}
-use Rattle.op_model.specs.Lines.{Absent, Copy, is_empty}
 use Rattle.op_model.specs.Operations.{is_load}
 use Rattle.op_model.specs.Run.Rest.{IsAtRest}
 use Rattle.op_model.specs.Run.Runs.{Past}
@@ -15,23 +14,22 @@ use Rattle.op_model.specs.Run.Schedules.{eviction_of, lane_or_next, make_room, o
 use Rattle.op_model.specs.Shares.{Charge, State, Trace, conflicts, copy_of, program, room_of, share_at, want_on}
 use Rattle.op_model.specs.Tables.Home.{lacks_link}
 use Rattle.op_model.specs.Tables.Processor.{hit, serves}
-use Rattle.op_model.proofs.Public.{empty-copy}
-use Rattle.one_history.specs.Sound.{IsCached}
 use Rattle.node_range.proofs.Public.{next-in}
 use Rattle.rest_laws.proofs.Public.{clear-none}
 use Rattle.schedule_laws.specs.Courses.{next_by}
-use Rattle.schedule_laws.proofs.Alone.{IsAlone, absent-other, other-none, other-some}
+use Rattle.schedule_laws.proofs.Alone.{absent-other, left-alone, other-none, other-some}
 use Rattle.schedule_laws.proofs.Begins.{hit-made, hit-missed}
 use Rattle.schedule_laws.proofs.Completing.{Completes}
 use Rattle.schedule_laws.proofs.Evicts.{round-evicted}
 use Rattle.schedule_laws.proofs.Issues.{Chooses, issue-here, issue-load, issue-write}
 use Rattle.schedule_laws.proofs.Known.{Delivers, IsKnown, IsUsual, known-run}
 use Rattle.schedule_laws.proofs.Recalls.{header_at}
-use Rattle.schedule_laws.proofs.RestMoments.{free-at, tracked-first}
+use Rattle.schedule_laws.proofs.RestMoments.{free-at}
 use Rattle.schedule_laws.proofs.Retries.{issue-wanting, issues-next, round-places}
 use Rattle.schedule_laws.proofs.Rounds.{IsRound, round-made, round-naks, round-none, round-wider}
 use Rattle.schedule_laws.proofs.Settling.{IsTracked}
 use Rattle.schedule_laws.proofs.Single.{AreEmpty, none-sent, only-sent}
+use Rattle.schedule_laws.proofs.FromRest.{tracked-first}
 
 module _ (charge : Charge) (trace : Trace) (usual : IsUsual trace) (next : State → Option Event) (delivers : Delivers charge trace usual next) (op : Op) (p_in : op.node < trace.sizes.nodes) where
   abbrev sizes : Sizes
@@ -104,29 +102,11 @@ module _ (charge : Charge) (trace : Trace) (usual : IsUsual trace) (next : State
         (λ then known_then at.
         round-none charge trace usual next delivers p places then 0 known_then
         (subst (λ (s : State). AreEmpty s.lane) (sym at) (none-sent p line _ (only-sent p line [] first.state.lane rests.lanes)))
-        (subst (IsTracked p places) (sym at) (tracked-first charge trace usual first known rests p line (hit op (share_at sizes first.state p line)) first.state.lane (inl (refl, ap (λ w. want_on sizes w line) (free-at charge trace usual first known rests p))))))
-
-  kept-copy : (copy : Copy) (b : Bool) → is_empty copy ≡ false → (not (is_empty copy) || b) ≡ true
-  kept-copy copy b e = ap (λ c. not c || b) e
+        (subst (IsTracked p places) (sym at) (tracked-first sizes first.state p line (hit op (share_at sizes first.state p line)) rests.wants first.state.lane (inl (refl, ap (λ w. want_on sizes w line) (free-at charge trace usual first known rests p))))))
 
   module _ (first : Past) (known : IsKnown charge trace first) (rests : IsAtRest first.state) (is : slice_get (program trace p) (first.state.share p).place ≡ Some op) (chooses : Chooses charge trace next (λ n. (first.state.share n).place) op) where
     abbrev place_of : ℕ → ℕ
     place_of n = (first.state.share n).place
-
-    abbrev cached : IsCached sizes (first.state.share p)
-    cached = known.sound.cached p
-
-    -- when another line of the set has left, the line stands alone in it
-    left-alone : (g : ℕ) → set_of sizes g ≡ set_of sizes line → is_empty (copy_of (first.state.share p) g) ≡ false → (end : Past) → ((x : ℕ) → x ≢ g → copy_of (end.state.share p) x ≡ copy_of (first.state.share p) x) → copy_of (end.state.share p) g ≡ Absent → IsAlone sizes (end.state.share p) line
-    left-alone g in_set has end copies gone x other same = go (x == g) refl
-      where
-        go : (c : Bool) → (x == g) ≡ c → copy_of (end.state.share p) x ≡ Absent
-        go true e = let is_g : x ≡ g = grind (arith, nat_tests) in ap (copy_of (end.state.share p)) is_g ∙ gone
-        go false e = let far : x ≢ g = grind (arith, nat_tests) in copies x far ∙ empty far (is_empty (copy_of (first.state.share p) x)) refl
-          where
-            empty : x ≢ g → (c : Bool) → is_empty (copy_of (first.state.share p) x) ≡ c → copy_of (first.state.share p) x ≡ Absent
-            empty far true f = empty-copy _ f
-            empty far false f = absurd (far (cached x g (kept-copy _ _ f) (kept-copy _ _ has) (same ∙ sym in_set)))
 
     -- room is made, and then the operation is issued
     evict-any : serves op (copy_of (first.state.share p) line) ≡ false → (g : ℕ) → other_in_set sizes (first.state.share p) line ≡ Some g → IsRound charge trace usual next delivers p place_of first (suc (suc (2 * sizes.nodes + 6))) 1
@@ -139,7 +119,7 @@ module _ (charge : Charge) (trace : Trace) (usual : IsUsual trace) (next : State
         ∙ ap (λ o. Some (make_room sizes p (first.state.share p) o)) other in
         round-evicted charge trace usual next delivers p first known rests p_in g there.2 (2 * sizes.nodes + 6) 1 chosen
         (λ end known_end rests_end places copies gone.
-        let alone = left-alone g there.0 there.2 end copies gone in
+        let alone = left-alone sizes (first.state.share p) (end.state.share p) line g (known.sound.cached p) there.0 there.2 copies gone in
         round-places charge trace usual next delivers p (λ n. (end.state.share n).place) place_of end (2 * sizes.nodes + 6) 1 places
         (issue-any end known_end rests_end (ap (slice_get (program trace p)) (places p) ∙ is) (λ m still same. chooses m still (λ n. same n ∙ places n))
         (ap (serves op) (copies line (λ e. there.1 (sym e))) ∙ missed) (absent-other sizes (end.state.share p) line alone)))

@@ -18,7 +18,7 @@ pub use Rattle.schedule_laws.proofs.Requests.{forwardx-row, get-row}
 pub use Rattle.schedule_laws.proofs.RestMoments.{listed-only, not-full}
 pub use Rattle.schedule_laws.proofs.Asked.{serves-exclusive}
 pub use Rattle.schedule_laws.proofs.Gets.{listed-weight}
-pub use Rattle.schedule_laws.proofs.Alone.{IsAlone, absent-other, other-none, other-some}
+pub use Rattle.schedule_laws.proofs.Alone.{IsAlone, absent-other, left-alone, other-none, other-some}
 pub use Rattle.schedule_laws.proofs.Evicts.{IsEviction, evicts}
 pub use Rattle.schedule_laws.proofs.Uniques.{finishing-unique}
 pub use Rattle.schedule_laws.proofs.Lists.{at-end, count_by-push, find-first, find-none_of}
@@ -28,3 +28,5 @@ pub use Rattle.schedule_laws.proofs.Orders.{HaveDone, all-places, current-is, cu
 pub use Rattle.schedule_laws.proofs.Orders.{done-more, done_before, next-op}
 pub use Rattle.schedule_laws.proofs.Usual.{usual}
 pub use Rattle.schedule_laws.proofs.Operations.{completes}
+pub use Rattle.schedule_laws.proofs.Rounds.{rested-done}
+pub use Rattle.schedule_laws.proofs.FromRest.{copies-after, gone-after, open-gate, places-after, tracked-first}

@@ -1,24 +1,22 @@
 -- A moment at rest: each line is as a line of which nothing is under way, no home has a pending line, and a processor's next operation is
 -- begun at all nodes alike.
-use Rattle.std.proofs.Common.{◌≡◌, ℕ, suc, ◌<◌, inl, inr, Bool, true, false, cond, nat_le, nat_lt, ◌==◌, ◌&&◌, ◌||◌, List, [], ◌∷◌, refl, arith, ap, ◌∙◌, None, is_some, count_by}
+use Rattle.std.proofs.Common.{◌≡◌, ℕ, ◌<◌, Bool, true, false, cond, nat_le, nat_lt, ◌&&◌, ◌||◌, List, [], ◌∷◌, refl, arith, ap, ◌∙◌, None, count_by}
 use Rattle.std.proofs.lemmas.Bool.Decides.{nat_tests}
 use Rattle.std.proofs.lemmas.List.Sums.{sum_by-cons}
 use Rattle.std.specs.List.{list_any}
 use Rattle.std.specs.FinMap as fin
 use Rattle.line_map.specs.Sizes.{Sizes, home_of}
-use Rattle.op_model.specs.Lines.{Outcome, is_pending}
+use Rattle.op_model.specs.Lines.{is_pending}
 use Rattle.op_model.specs.Nodes.{count, listed, only, listings}
 use Rattle.op_model.specs.Run.Rest.{IsAtRest}
 use Rattle.op_model.specs.Run.Runs.{Past}
-use Rattle.op_model.specs.Shares.{Charge, Lanes, Share, State, Trace, copy_of, pending_lines, put_share, room_of, want_after}
+use Rattle.op_model.specs.Shares.{Charge, State, Trace, copy_of, pending_lines, room_of}
 use Rattle.one_history.specs.Project.{line_words, of_line, project}
 use Rattle.one_history.specs.Sound.{answered_of}
-use Rattle.lane_bounds.proofs.Public.{after_row_of}
 use Rattle.rest_laws.proofs.Public.{quiet-header}
 use Rattle.schedule_laws.proofs.Known.{IsKnown, IsUsual}
 use Rattle.schedule_laws.proofs.Recalls.{header_at}
 use Rattle.schedule_laws.proofs.RestLines.{IsRestLine, rest-line}
-use Rattle.schedule_laws.proofs.Settling.{GoesOn, IsTracked, IsUnderway, at-share}
 
 -- where a test counts none, it finds none, with a further test or without
 none-found : {X : Type 0} (p q : X → Bool) (xs : List X) → count_by p xs ≡ 0 → list_any (λ x. p x && q x) xs ≡ false
@@ -62,28 +60,6 @@ module _ (charge : Charge) (trace : Trace) (usual : IsUsual trace) (past : Past)
 
   pub free-at : (n : ℕ) → (state.share n).want ≡ None
   free-at n = rests.wants n
-
-  -- what a row of p leaves begun or done, while the others rest
-  pub tracked-first : (p line : ℕ) (outcome : Outcome) (lane : Lanes) → GoesOn outcome → IsTracked p (λ n. (state.share n).place) (after_row_of sizes p line outcome (record state { lane = lane }))
-  unfolding put_share
-  tracked-first p line outcome lane goes =
-      record {
-        others = λ n apart. at-share sizes state lane p line outcome (λ s. (s.want ≡ None) × (s.place ≡ (state.share n).place)) n (λ _. (free-at n, refl)) (λ same. absurd (apart same));
-        own = at-share sizes state lane p line outcome (IsUnderway (state.share p).place) p (λ apart. absurd (apart refl)) (λ _. mine goes);
-      }
-    where
-      row : Share
-      row = put_share sizes (p == home_of sizes line) line outcome.done outcome.share (state.share p)
-
-      want-is : row.want ≡ outcome.share.want
-      want-is = ap (λ w. want_after sizes w line outcome.share.want) (free-at p)
-
-      place-is : row.place ≡ cond outcome.done (suc (state.share p).place) (state.share p).place
-      place-is = refl
-
-      mine : GoesOn outcome → IsUnderway (state.share p).place row
-      mine (inl done) = inr (want-is ∙ done.1, place-is ∙ ap (λ d. cond d (suc (state.share p).place) (state.share p).place) done.0)
-      mine (inr begun) = inl (ap is_some want-is ∙ begun.1, place-is ∙ ap (λ d. cond d (suc (state.share p).place) (state.share p).place) begun.0)
 
 pub listed-only : (o : ℕ) → listed (only o) o ≡ true
 listed-only o = grind (arith, nat_tests, listings)

@@ -8,8 +8,8 @@ use Rattle.op_model.specs.declared.messages.NakCause.TheVariants.{NoLink}
 use Rattle.op_model.specs.declared.messages.Msg.{Msg}
 use Rattle.op_model.specs.declared.operations.Op.{Op}
 use Rattle.op_model.specs.Events.Node.{is_outstanding}
-use Rattle.op_model.specs.Lines.{Absent, Copy, LineShare, Outcome, Room, begun, is_empty, is_idle, is_pending, nobody_listed, sending, without_shared}
-use Rattle.op_model.specs.Messages.{Get, GetX, message, msg_class}
+use Rattle.op_model.specs.Lines.{Absent, Copy, LineShare, Outcome, Room, is_empty, is_idle, is_pending, nobody_listed}
+use Rattle.op_model.specs.Messages.{Get, message, msg_class}
 use Rattle.op_model.specs.Nodes.{count, listed}
 use Rattle.op_model.specs.Operations.{is_load}
 use Rattle.op_model.specs.Run.Rest.{IsAtRest}
@@ -18,7 +18,7 @@ use Rattle.op_model.specs.Run.Schedules.{make_room, other_in_set, processor_even
 use Rattle.op_model.specs.Shares.{Charge, State, Trace, conflicts, copy_of, links_among, is_linked, links_in, program, put_share, room_of, share_at}
 use Rattle.op_model.specs.Tables.Home.{lacks_link, on_get, refuse}
 use Rattle.op_model.specs.Tables.Processor.{ask, holds_link, serves}
-use Rattle.op_model.proofs.Public.{three_parts}
+use Rattle.op_model.proofs.Public.{ask-undone, three_parts}
 use Rattle.one_history.proofs.Public.{copy-other, copy-same}
 use Rattle.lane_bounds.proofs.Public.{after_act, after_row_of, asks_victim, is_fit, row_at, taken_of, taking}
 use Rattle.schedule_laws.proofs.Alone.{IsAlone, absent-alone, absent-other, alone-absent}
@@ -59,14 +59,6 @@ serves-absent op copy none = ap (serves op) none
 ask-absent : (home : ℕ) (op : Op) (share : LineShare) → is_load op.kind ≡ true → (ask home op share).share.copy ≡ share.copy
 unfolding ask
 ask-absent home op share load = rw load refl
-
-ask-undone : (home : ℕ) (op : Op) (share : LineShare) → (ask home op share).done ≡ false
-unfolding ask
-ask-undone home op share = go (is_load op.kind)
-  where
-    go : (c : Bool) → (cond c (sending (record share { want = begun op }) ((home, Get) ∷ [])) (sending (record share { want = begun op; copy = without_shared share.copy }) ((home, GetX) ∷ []))).done ≡ false
-    go true = refl
-    go false = refl
 
 -- a list that holds links holds one, and one of nobody holds none
 some-links : (linked : Bool) (n : ℕ) → (linked && not (n == 0) && not (n == 1)) ≡ true → 0 < cond (n == 0) 0 (Prim.Native.Nat.pred n)

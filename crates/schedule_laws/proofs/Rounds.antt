@@ -19,6 +19,11 @@ use Rattle.schedule_laws.proofs.Completes.{completes}
 use Rattle.schedule_laws.proofs.Under.{AllSent}
 use Rattle.schedule_laws.proofs.Begins.{IsMade}
 
+-- at rest an operation that was outstanding is done
+pub rested-done : (place : ℕ) (share : Share) → share.want ≡ None → IsUnderway place share → share.place ≡ suc place
+rested-done place share none (inl waits) = absurd (let n : false ≡ true = ap is_some (sym none) ∙ waits.0 in cc)
+rested-done place share none (inr done) = done.1
+
 module _ (charge : Charge) (trace : Trace) (usual : IsUsual trace) (next : State → Option Event) (delivers : Delivers charge trace usual next) where
   abbrev sizes : Sizes
   sizes = trace.sizes
@@ -39,11 +44,6 @@ module _ (charge : Charge) (trace : Trace) (usual : IsUsual trace) (next : State
   pub settled-rests : (Holds : Past → Type 0) (past : Past) (most : ℕ) → (settled : IsSettled charge trace usual next Holds past most) → IsAtRest settled.end.state
   settled-rests Holds past most settled =
       rests trace charge settled.end settled.known.sound settled.known.bounded (all-clear sizes settled.end.state settled.clear settled.known.ranged)
-
-  -- at rest an operation that was outstanding is done
-  rested-done : (place : ℕ) (share : Share) → share.want ≡ None → IsUnderway place share → share.place ≡ suc place
-  rested-done place share none (inl waits) = absurd (let n : false ≡ true = ap is_some (sym none) ∙ waits.0 in cc)
-  rested-done place share none (inr done) = done.1
 
   -- what settles is a round
   pub round-settled : (p line : ℕ) (places : ℕ → ℕ) (past : Past) (most : ℕ) → IsKnown charge trace past → IsCompleting sizes line p places past.state → left_over sizes line past.state ≤ most → IsRound p places past most 0

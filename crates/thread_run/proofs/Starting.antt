@@ -1,5 +1,5 @@
 -- Seats and programs as they are handed out, node by node.
-use Rattle.std.proofs.Common.{◌≡◌, ℕ, suc, ◌+◌, ◌<◌, List, [], ◌∷◌, ◌++◌, length, refl, sym, ap, subst, ◌∙◌, arith, length-append, append_assoc, Some}
+use Rattle.std.proofs.Common.{◌≡◌, ℕ, suc, ◌+◌, ◌<◌, List, [], ◌∷◌, ◌++◌, length, refl, sym, ap, subst, ◌∙◌, arith, length-append, append_assoc}
 use Rattle.std.specs.Prelude.{slice_get}
 use Rattle.line_map.specs.Sizes.{Sizes, AreSizes}
 use Rattle.line_map.proofs.Public.{few-nodes}
@@ -9,6 +9,7 @@ use Rattle.op_model.specs.Parts.Part.{Part, part_at_start}
 use Rattle.dir_header.specs.HomeSides.{IsFresh}
 use Rattle.sharer_dir.specs.Linked.{LinkedView, linked_directory, first_linked}
 use Rattle.op_model.specs.Run.Runs.{start_share}
+use Rattle.op_model.proofs.Public.{slice_get-middle}
 use Rattle.lane_table.specs.Rule.{parts_from}
 use Rattle.node_box.specs.Boxes.{LinkedNode, node_of}
 
@@ -26,10 +27,6 @@ next_part sizes number program rest left parts later part are split next =
     let more : suc number ≡ number + 1 = omega arith in
     (one, two ∙ ap (λ n. parts_from sizes n rest) more)
 
-in_middle : {A : Type 0} (xs : List A) (y : A) (ys : List A) → slice_get (xs ++ y ∷ ys) (length xs) ≡ Some y
-in_middle [] y ys = refl
-in_middle (x ∷ xs) y ys = in_middle xs y ys
-
 -- of the next node: its number is one of the machine, and its program is its own
 pub record IsNext (sizes : Sizes) (number : ℕ) (program : List Op) : Type 0 where
   pub below : number < sizes.nodes
@@ -43,7 +40,7 @@ next_program sizes programs before rest left number program are split next count
     let n = are.count in
     record {
       below = omega arith;
-      own = are.each number program (ap (λ l. slice_get l number) whole ∙ (ap (slice_get (before ++ program ∷ rest)) (sym count) ∙ in_middle before program rest));
+      own = are.each number program (ap (λ l. slice_get l number) whole ∙ (ap (slice_get (before ++ program ∷ rest)) (sym count) ∙ slice_get-middle before program rest));
     }
 
 pub moved_on : {A : Type 0} (all before left rest : List A) (x : A) → all ≡ before ++ left → left ≡ x ∷ rest → all ≡ (before ++ x ∷ []) ++ rest

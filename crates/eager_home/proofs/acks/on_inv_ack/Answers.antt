@@ -4,9 +4,10 @@ use Rattle.op_model.specs.Nodes.{unlist, only}
 use Rattle.eager_model.specs.Rows.{drained_list}
 use Rattle.op_model.specs.Lines.{is_pending}
 use Rattle.op_model.specs.Tables.Remote.{is_invalidate}
+use Rattle.op_model.proofs.Public.{called-pends}
 use Rattle.dir_header.specs.HomeSides.{header_at}
 use Rattle.node_share.proofs.Public.{puts-read}
-use Rattle.home_getx.proofs.Public.{last-one, pends}
+use Rattle.home_getx.proofs.Public.{last-one}
 use Rattle.eager_home.proofs.Acked.{acked, more, rested, nobody-owns, owned}
 use Rattle.eager_home.proofs.acks.on_inv_ack.Goals as goal
 
@@ -16,7 +17,7 @@ returns-then-header-gt1-clause-share g c =
 
 pub end_pending-requires-clause-pending : goal.end_pending-requires-clause-pending
 end_pending-requires-clause-pending g c =
-    ap is_pending (puts-read (acked c.args.home.now c.args.src c.args.line c.requires.line c.requires.waits c.requires.listed c.unlist.new.self c.unlist.ensures.home)) ∙ pends (header_at c.args.home.now c.args.line).wait c.requires.waits
+    ap is_pending (puts-read (acked c.args.home.now c.args.src c.args.line c.requires.line c.requires.waits c.requires.listed c.unlist.new.self c.unlist.ensures.home)) ∙ called-pends (header_at c.args.home.now c.args.line).wait c.requires.waits
 
 pub end_pending-requires-clause-acks : goal.end_pending-requires-clause-acks
 end_pending-requires-clause-acks g c =

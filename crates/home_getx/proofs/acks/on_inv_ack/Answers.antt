@@ -5,9 +5,10 @@ use Rattle.op_model.specs.declared.state.Grantee.TheVariants.{Nobody, Me, Node}
 use Rattle.op_model.specs.Lines.{is_pending}
 use Rattle.op_model.specs.Tables.Home.{grantee_of}
 use Rattle.op_model.specs.Tables.Remote.{is_invalidate}
+use Rattle.op_model.proofs.Public.{called-pends}
 use Rattle.dir_header.specs.HomeSides.{header_at}
 use Rattle.node_share.proofs.Public.{puts-read}
-use Rattle.home_getx.proofs.Granted.{pends, last-one, acked, more-does, more-tells, granted, handed, taken, nobody-does, nobody-tells, node-does, node-tells, me-does, me-tells, some-write, write-on, write-kind, write-next, write-word, write-alone, write-unserved}
+use Rattle.home_getx.proofs.Granted.{last-one, acked, more-does, more-tells, granted, handed, taken, nobody-does, nobody-tells, node-does, node-tells, me-does, me-tells, some-write, write-on, write-kind, write-next, write-word, write-alone, write-unserved}
 use Rattle.home_getx.proofs.acks.on_inv_ack.Goals as goal
 
 pub returns-then-header-gt1-clause-row : goal.returns-then-header-gt1-clause-row
@@ -22,7 +23,7 @@ returns-then-header-gt1-clause-effect g c =
 
 pub end_pending-requires-clause-pending : goal.end_pending-requires-clause-pending
 end_pending-requires-clause-pending g c =
-    ap is_pending (puts-read (acked c.args.home.now c.args.cache.now c.args.proc.now c.args.src c.args.line c.args.out.now c.requires.line c.cfg-kept.ensures.kept.held c.requires.waits c.requires.listed c.unlist.new.self c.unlist.ensures.home)) ∙ pends (header_at c.args.home.now c.args.line).wait c.requires.waits
+    ap is_pending (puts-read (acked c.args.home.now c.args.cache.now c.args.proc.now c.args.src c.args.line c.args.out.now c.requires.line c.cfg-kept.ensures.kept.held c.requires.waits c.requires.listed c.unlist.new.self c.unlist.ensures.home)) ∙ called-pends (header_at c.args.home.now c.args.line).wait c.requires.waits
 
 pub end_pending-requires-clause-acks : goal.end_pending-requires-clause-acks
 end_pending-requires-clause-acks g c =

@@ -12,10 +12,21 @@ use Rattle.op_model.specs.Run.History.{IsNext, entries_by}
 use Rattle.op_model.specs.Run.Runs.{Past, entries_of, entry_for}
 use Rattle.op_model.specs.Shares.{Share, Trace, program, put_share, want_on}
 use Rattle.line_invariant.specs.Line.{answered_after}
-use Rattle.line_invariant.specs.Rows.{IsDoneRight, IsLoadWanted, wanting}
-use Rattle.one_history.specs.Sound.{IsOrdered, answered_in, answered_of, is_begun_on}
-use Rattle.one_history.proofs.Public.{IsNextWant, IsServedIn, begun-next, by-append, next-entry, ordered-done}
-use Rattle.one_history.proofs.Public.{ordered-own, ordered-row, ordered-served}
+use Rattle.line_invariant.specs.Rows.{IsDoneRight, IsLoadWanted, IsOwnServed, IsOwnWant, wanting}
+use Rattle.one_history.specs.Sound.{IsNextOp, IsOrdered, answered_in, answered_of, is_begun_on}
+use Rattle.one_history.proofs.Order.{IsNextWant, begun-next, by-append, ordered-done, ordered-own, ordered-row, ordered-served}
+
+-- the operation that a row serves is of its line, and is served on the line's words
+abbrev pub IsServedIn : Trace → Past → ℕ → ℕ → Words → Service → Type 0
+IsServedIn trace past me line words NoService = Unit {0}
+IsServedIn trace past me line words (Own op on) =
+    (on ≡ words) × IsNextOp trace me (past.state.share me).place line op × (((past.state.share me).want ≡ None) ⊎ (is_begun_on trace.sizes (past.state.share me).want line ≡ true)) × (answered_of trace.sizes past line me ≡ false)
+IsServedIn trace past me line words (For node on) =
+    (on ≡ words) × IsLoadWanted (want_on trace.sizes (past.state.share node).want line) × (answered_of trace.sizes past line node ≡ false) × (node ≢ me)
+
+-- the entry of a node's next operation follows its entries
+pub next-entry : (trace : Trace) (node place line : ℕ) (op : Op) (on : Words) → IsNextOp trace node place line op → IsNext place (slice_get (program trace node) place) (entry_of node place op on)
+next-entry trace node place line op on is = subst (λ o. IsNext place o (entry_of node place op on)) (sym is.0) (refl, refl, refl, λ write. rw write refl)
 
 -- a node after a row, with its entries and its mark
 module _ (trace : Trace) (past : Past) (ordered : (n : ℕ) → IsOrdered trace n (past.state.share n) (entries_by n past.served)) (node line : ℕ) (at_home : Bool) (row : LineShare) where
@@ -59,21 +70,21 @@ module _ (trace : Trace) (past : Past) (ordered : (n : ℕ) → IsOrdered trace 
       (t.0, t.2, t.1)
 
   -- every node
-  pub all-fine : (words : Words) (served : Service) (done : Bool) → IsServedIn trace past node line words served → IsDoneRight (answered_of trace.sizes past line node ≡ true) served done row.want →
+  pub nodes-after : (words : Words) (served : Service) (done : Bool) → IsServedIn trace past node line words served → IsDoneRight (answered_of trace.sizes past line node ≡ true) served done row.want →
       IsNextWant trace node (past.state.share node).place line row.want → (row.want ≡ None → done ≡ false → answered_of trace.sizes past line node ≡ false) →
       (n : ℕ) → Fine n (put_at past.state.share node (after done) n) (entries_by n (past.served ++ entries_of trace.sizes past.state node line served)) (answered_after node served done (answered_of trace.sizes past line) n)
-  all-fine words NoService false well right begins idle n = rw (append-nil) (go (n == node) refl)
+  nodes-after words NoService false well right begins idle n = rw (append-nil) (go (n == node) refl)
     where
       go : (c : Bool) → (n == node) ≡ c → Fine n (cond c (after false) (past.state.share n)) (entries n) (answered_of trace.sizes past line n)
       go true e = let is : node ≡ n = grind (arith, nat_tests) in subst (λ k. Fine k (after false) (entries k) (answered_of trace.sizes past line k)) is (row-fine begins (λ none. idle none refl))
       go false e = same-fine n
-  all-fine words NoService true well right begins idle n = rw (append-nil) (go (n == node) refl)
+  nodes-after words NoService true well right begins idle n = rw (append-nil) (go (n == node) refl)
     where
       go : (c : Bool) → (n == node) ≡ c → Fine n (cond c (after true) (past.state.share n)) (entries n) (cond c false (answered_of trace.sizes past line n))
       go true e = let is : node ≡ n = grind (arith, nat_tests) in subst (λ k. Fine k (after true) (entries k) false) is (done-fine right.0 right.1)
       go false e = same-fine n
-  all-fine words (Own op on) false well right begins idle n = absurd (let d = right.1 in cc)
-  all-fine words (Own op on) true well right begins idle n = rw (by-append) (go (n == node) refl)
+  nodes-after words (Own op on) false well right begins idle n = absurd (let d = right.1 in cc)
+  nodes-after words (Own op on) true well right begins idle n = rw (by-append) (go (n == node) refl)
     where
       entry : Entry
       entry = entry_of node (past.state.share node).place op on
@@ -84,8 +95,8 @@ module _ (trace : Trace) (past : Past) (ordered : (n : ℕ) → IsOrdered trace 
           let on_it : (node == n) ≡ true = grind (arith, nat_tests) in
           rw on_it (subst (λ k. Fine k (after true) (entries k ++ entry ∷ []) false) is (own-fine entry right.0 well.2 well.3 (next-entry trace node (past.state.share node).place line op on well.1)))
       go false e = let off : (node == n) ≡ false = grind (arith, nat_tests) in rw (off, append-nil) (same-fine n)
-  all-fine words (For r on) true well right begins idle n = absurd (let d = right in cc)
-  all-fine words (For r on) false well right begins idle n = wanted-by (want_on trace.sizes (past.state.share r).want line) refl well.1
+  nodes-after words (For r on) true well right begins idle n = absurd (let d = right in cc)
+  nodes-after words (For r on) false well right begins idle n = wanted-by (want_on trace.sizes (past.state.share r).want line) refl well.1
     where
       wanted-by : (want : Option Want) → want_on trace.sizes (past.state.share r).want line ≡ want → IsLoadWanted want → Fine n (put_at past.state.share node (after false) n) (entries_by n (past.served ++ entry_for r (past.state.share r).place on want)) (put_at (answered_of trace.sizes past line) r true n)
       wanted-by None w load = absurd load
@@ -106,11 +117,29 @@ module _ (trace : Trace) (past : Past) (ordered : (n : ℕ) → IsOrdered trace 
               rw on_it (subst (λ k. Fine k (past.state.share k) (entries k ++ entry ∷ []) true) is (gets-fine r want.op want.marked entry w well.2 (next-entry trace r (past.state.share r).place line want.op on (begun-next trace r (past.state.share r).place (past.state.share r).want line want.op want.marked (ordered r).begun w))))
           go false false e f = let off : (r == n) ≡ false = grind (arith, nat_tests) in rw (off, append-nil) (same-fine n)
 
-pub not-yet : (trace : Trace) (past : Past) (node line : ℕ) (words : Words) (served : Service) (done : Bool) (want : Option Want) → IsServedIn trace past node line words served → IsDoneRight (answered_of trace.sizes past line node ≡ true) served done want → done ≡ false →
+pub unserved-before : (trace : Trace) (past : Past) (node line : ℕ) (words : Words) (served : Service) (done : Bool) (want : Option Want) → IsServedIn trace past node line words served → IsDoneRight (answered_of trace.sizes past line node ≡ true) served done want → done ≡ false →
     answered_after node served done (answered_of trace.sizes past line) node ≡ false → answered_of trace.sizes past line node ≡ false
-not-yet trace past node line words NoService false want well right still e = e
-not-yet trace past node line words NoService true want well right still e = cc
-not-yet trace past node line words (Own op on) false want well right still e = absurd (let d = right.1 in cc)
-not-yet trace past node line words (Own op on) true want well right still e = cc
-not-yet trace past node line words (For r on) true want well right still e = cc
-not-yet trace past node line words (For r on) false want well right still e = let apart = well.3 in let off : (node == r) ≡ false = grind (arith, nat_tests) in rw off at e
+unserved-before trace past node line words NoService false want well right still e = e
+unserved-before trace past node line words NoService true want well right still e = cc
+unserved-before trace past node line words (Own op on) false want well right still e = absurd (let d = right.1 in cc)
+unserved-before trace past node line words (Own op on) true want well right still e = cc
+unserved-before trace past node line words (For r on) true want well right still e = cc
+unserved-before trace past node line words (For r on) false want well right still e = let apart = well.3 in let off : (node == r) ≡ false = grind (arith, nat_tests) in rw off at e
+
+-- what a node's own processor serves or begins is its next operation
+pub own-served : (trace : Trace) (past : Past) (node line : ℕ) (words : Words) (op : Op) (served : Service) → IsNextOp trace node (past.state.share node).place line op → (past.state.share node).want ≡ None → answered_of trace.sizes past line node ≡ false → IsOwnServed op words served →
+    IsServedIn trace past node line words served
+own-served trace past node line words op NoService is free unserved h = tt
+own-served trace past node line words op (Own served on) is free unserved h = (h.0, subst (IsNextOp trace node (past.state.share node).place line) (sym h.1) is, inl free, unserved)
+own-served trace past node line words op (For other on) is free unserved h = absurd h
+
+pub own-want : (trace : Trace) (node place line : ℕ) (op : Op) (want : Option Want) → IsNextOp trace node place line op → IsOwnWant op want → IsNextWant trace node place line want
+own-want trace node place line op None is h = tt
+own-want trace node place line op (Some want) is h = subst (IsNextOp trace node place line) (sym h) is
+
+-- a row that is done right where nothing was served before is done right whatever was served
+pub own-done : (Known : Type 0) (served : Service) (done : Bool) (want : Option Want) → IsDoneRight ⊥ served done want → IsDoneRight Known served done want
+own-done Known NoService true want h = absurd h.1
+own-done Known NoService false want h = tt
+own-done Known (Own op on) done want h = h
+own-done Known (For node on) done want h = h
